@@ -8,8 +8,8 @@ use lib.IntN.{pos}
 use Rattle.model.specs.declared.Answer.{Answer}
 use Rattle.model.specs.declared.Kind.{Kind}
 use Rattle.model.specs.Limits.{maxActions}
-use Rattle.model.specs.Search.{any, found, none}
-use Rattle.model.specs.Answers.{answer, naming, when, _then_}
+use Rattle.model.specs.Search.{any, none}
+use Rattle.model.specs.Answers.{answer, when, upTo, rule, _then_}
 use Rattle.model.specs.Kinds.{variable, monitor, thread as thread-class, zero-byte, any-byte}
 use Rattle.model.specs.Layout.{byte, two, mark, version, threads, variables, monitors, K, volatile, start, section, size, ident, thread, target, commit, place, seen, unused, value, sameℤ, row, sync, read, write}
 
@@ -30,11 +30,8 @@ cut r s =
 
 unfoldable pub rule5 : List ℕ → Answer
 rule5 r =
-    naming-section (found (K r + 1) (cut r))
+    upTo (K r + 1) (λ s. when (cut r s) (answer 5 s none none))
     then when (ltb (start r (K r + 1)) (length r)) (answer 5 (K r) none none)
-  where
-    naming-section : ℕ → Answer
-    naming-section s = cond (eqb s none) (answer 0 0 none none) (answer 5 s none none)
 
 -- a target t against its row k of the table of kinds
 unfoldable pub targeted : List ℕ → Kind → ℕ → Bool
@@ -49,10 +46,9 @@ targeted r k t =
 unfoldable pub committed-in : ℕ → ℕ → ℕ → Bool
 committed-in K s c = cond (eqb s 0) (leb (min K 1) c && leb c K) (eqb c 0)
 
--- action a of section s is as the two tables say
-unfoldable pub fielded : List ℕ → ℕ → ℕ → Bool
-fielded r s a =
-    let x = section r s in
+-- action a of section s, whose bytes are x, is as the two tables say
+unfoldable pub fielded : List ℕ → ℕ → List ℕ → ℕ → Bool
+fielded r s x a =
     not (eqb (ident x a) 0)
     && ltb (thread x a) (threads r)
     && targeted r (row x a) (target x a)
@@ -66,17 +62,15 @@ fielded r s a =
 unfoldable pub met : List ℕ → ℕ → Bool
 met x a = any a (λ b. eqb (ident x b) (ident x a))
 
--- number N, naming the first section, then the first of its actions, of which p holds
-unfoldable pub sections : ℕ → List ℕ → (ℕ → ℕ → Bool) → Answer
-sections N r p =
-    let s = found (K r + 1) (λ s. any (size (section r s)) (p s)) in
-    cond (eqb s none) (answer 0 0 none none) (answer N s (found (size (section r s)) (p s)) none)
+-- number N, looking at all sections: the first action of a section's bytes of which p holds
+unfoldable pub sections : ℕ → List ℕ → (ℕ → List ℕ → ℕ → Bool) → Answer
+sections N r p = upTo (K r + 1) (λ s. let x = section r s in rule N s (size x) (p s x))
 
 unfoldable pub rule6 : List ℕ → Answer
-rule6 r = sections 6 r (λ s a. not (fielded r s a))
+rule6 r = sections 6 r (λ s x a. not (fielded r s x a))
 
 unfoldable pub rule7 : List ℕ → Answer
-rule7 r = sections 7 r (λ s. met (section r s))
+rule7 r = sections 7 r (λ s. met)
 
 -- 1 to 7, where the question wants `need` words and `lent` are there
 unfoldable pub refusal : List ℕ → ℕ → ℕ → Answer

@@ -1,7 +1,7 @@
 -- The one-at-a-time order of a race-free section x: which positions it lists after k steps.
 use Prim.Native.Nat.{ℕ, zero, suc, _+_}
 use mathlib.Core.List.{List, [], _∷_, _++_}
-use mathlib.Core.Bool.{Bool, true, false, not, _&&_, _||_}
+use mathlib.Core.Bool.{Bool, not, cond, _&&_, _||_}
 use lib.ListN.{length, getD}
 use lib.Dec.{eqb, ltb}
 use Rattle.model.specs.Search.{any, first, count}
@@ -23,9 +23,9 @@ due x l = count (length l) (λ i. sync x (getD l i 0)) + 1
 unfoldable pub ready : List ℕ → List ℕ → ℕ → Bool
 ready x l t = ltb (next x l t) (size x) && (not (sync x (next x l t)) || eqb (place x (next x l t)) (due x l))
 
--- "at each step the lowest-numbered thread" that is ready; threads are below 16
+-- "at each step the lowest-numbered thread" that is ready, threads being below 16; the section's size where there is none
 unfoldable pub turn : List ℕ → List ℕ → ℕ
-turn x l = next x l (first 16 (ready x l))
+turn x l = let t = first 16 (ready x l) in cond (ltb t 16) (next x l t) (size x)
 
 unfoldable pub serial : List ℕ → ℕ → List ℕ
 serial x zero = []

@@ -1,0 +1,2 @@
+-- What the rows hold after a step, as functions of the words before it.
+pub mod Steps

@@ -1,1 +1,5 @@
 pub mod Search
+pub mod Words
+pub mod Answers
+pub mod Bench
+pub mod Serial

@@ -1,5 +1,5 @@
 -- An answer is (N, S, A, B). Smaller numbers are checked first: the answer is the first in a row of checks that is not 0.
-use Prim.Native.Nat.{ℕ, zero, suc}
+use Prim.Native.Nat.{ℕ, zero, suc, _+_, _*_, _^_}
 use mathlib.Core.Bool.{Bool, true, false, cond}
 use lib.Dec.{eqb}
 use Rattle.model.specs.declared.Answer.{Answer}
@@ -13,7 +13,6 @@ abbrev pub pass : Answer
 pass = answer 0 0 none none
 
 infixr 20 _then_
-
 abbrev pub _then_ : Answer → Answer → Answer
 r then q = elim (eqb (r .n) 0) [ true ↦ q | false ↦ r ]
 
@@ -38,3 +37,7 @@ rule N s n p = naming N s (found n p) none
 -- number N and section s, naming the least x, then the least y below n, between which p holds
 unfoldable pub rule₂ : ℕ → ℕ → ℕ → (ℕ → ℕ → Bool) → Answer
 rule₂ N s n p = let x = found n (λ x. any n (p x)) in naming N s x (found n (p x))
+
+-- the host's one number
+unfoldable pub packed : Answer → ℕ
+packed r = r .n + 2 ^ 8 * r .s + 2 ^ 16 * r .a + 2 ^ 32 * r .b

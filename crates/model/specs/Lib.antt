@@ -11,3 +11,4 @@ pub mod Rules
 pub mod Serial
 pub mod Justified
 pub mod Questions
+pub mod Bench

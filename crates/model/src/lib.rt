@@ -12,10 +12,15 @@ pub struct Answer {
 
 // The classes of targets.
 pub const NO_KIND: u8 = 0;
+
 pub const VARIABLE: u8 = 1;
+
 pub const MONITOR: u8 = 2;
+
 pub const THREAD: u8 = 3;
+
 pub const ZERO: u8 = 4;
+
 pub const ANY: u8 = 5;
 
 // A row of the table of kinds: the target's class, whether a variable must be volatile, whether the kind is a synchronization kind, a read, a write.
@@ -29,27 +34,95 @@ pub struct Kind {
 
 // Row k is kind k; row 0 stands for every byte that is no kind.
 const KINDS: [Kind; 12] = [
-    Kind { target: NO_KIND, volatile: false, sync: false, read: false, write: false },
-    Kind { target: VARIABLE, volatile: false, sync: false, read: true, write: false },
-    Kind { target: VARIABLE, volatile: false, sync: false, read: false, write: true },
-    Kind { target: VARIABLE, volatile: true, sync: true, read: true, write: false },
-    Kind { target: VARIABLE, volatile: true, sync: true, read: false, write: true },
-    Kind { target: MONITOR, volatile: false, sync: true, read: false, write: false },
-    Kind { target: MONITOR, volatile: false, sync: true, read: false, write: false },
-    Kind { target: THREAD, volatile: false, sync: true, read: false, write: false },
-    Kind { target: ZERO, volatile: false, sync: true, read: false, write: false },
-    Kind { target: ZERO, volatile: false, sync: true, read: false, write: false },
-    Kind { target: THREAD, volatile: false, sync: true, read: false, write: false },
-    Kind { target: ANY, volatile: false, sync: false, read: false, write: false },
+    Kind {
+        target: NO_KIND,
+        volatile: false,
+        sync: false,
+        read: false,
+        write: false,
+    },
+    Kind {
+        target: VARIABLE,
+        volatile: false,
+        sync: false,
+        read: true,
+        write: false,
+    },
+    Kind {
+        target: VARIABLE,
+        volatile: false,
+        sync: false,
+        read: false,
+        write: true,
+    },
+    Kind {
+        target: VARIABLE,
+        volatile: true,
+        sync: true,
+        read: true,
+        write: false,
+    },
+    Kind {
+        target: VARIABLE,
+        volatile: true,
+        sync: true,
+        read: false,
+        write: true,
+    },
+    Kind {
+        target: MONITOR,
+        volatile: false,
+        sync: true,
+        read: false,
+        write: false,
+    },
+    Kind {
+        target: MONITOR,
+        volatile: false,
+        sync: true,
+        read: false,
+        write: false,
+    },
+    Kind {
+        target: THREAD,
+        volatile: false,
+        sync: true,
+        read: false,
+        write: false,
+    },
+    Kind {
+        target: ZERO,
+        volatile: false,
+        sync: true,
+        read: false,
+        write: false,
+    },
+    Kind {
+        target: ZERO,
+        volatile: false,
+        sync: true,
+        read: false,
+        write: false,
+    },
+    Kind {
+        target: THREAD,
+        volatile: false,
+        sync: true,
+        read: false,
+        write: false,
+    },
+    Kind {
+        target: ANY,
+        volatile: false,
+        sync: false,
+        read: false,
+        write: false,
+    },
 ];
 
 // The row of kind k.
 pub fn row_of(k: u8) -> Kind
     ensures { λ r. ⌜ r ≡ kindRow k ⌝ }
 {
-    if k < 12 {
-        KINDS[k as usize]
-    } else {
-        KINDS[0]
-    }
+    if k < 12 { KINDS[k as usize] } else { KINDS[0] }
 }

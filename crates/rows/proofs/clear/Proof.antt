@@ -1,45 +1,40 @@
+-- `rows::clear` meets its contract. The loop's invariant: the words before `i` are 0, and the others are as they were.
+use Prim.Native.Nat.{_≤_, _<_, _-_}
+use mathlib.Core.Path.{_≡_}
+use mathlib.Core.List.{_++_, append-nil}
+use native.Mathlib.Omega.{arith}
+use lib.ListN.{length, drop, replicate, length-set}
+use lib.Seq.{drop-length}
+use borrow.Author.Needs.{needs}
+use borrow.Author.Fill.{fill-none, fill-more}
 use Rattle.rows.proofs.clear.Statement.{statement}
 use Rattle.rows.proofs.clear.Tie as tie
 use Rattle.rows.proofs.clear.Reads as reads
 use Rattle.rows.proofs.clear.Lts as lts
 
 abbrev Inv-loop : tie.InvT-loop
-Inv-loop part₀ i₀ i-end part i = ?
+Inv-loop part₀ i₀ i-end part i =
+    (i ≤ length part₀) × (length part ≡ length part₀) × (part ≡ replicate i 0 ++ drop i part₀)
 
 abbrev μ-loop : tie.MeasureT-loop
-μ-loop part₀ i₀ i-end part i = ?
+μ-loop part₀ i₀ i-end part i = length part₀ - i
 
--- src/lib.rt:29:5
-loop-holds : tie.Need-loop-holds Inv-loop μ-loop
-loop-holds c = ?
-
--- src/lib.rt:30:9
 mul-part : tie.Need-mul-part Inv-loop μ-loop
-mul-part c = ?
+mul-part c = search needs
 
--- src/lib.rt:30:9
-slice-write-part : tie.Need-slice-write-part Inv-loop μ-loop
-slice-write-part c = ?
-
--- src/lib.rt:29:9
-add-i : tie.Need-add-i Inv-loop μ-loop
-add-i c = ?
-
--- src/lib.rt:29:5
-loop-less : tie.Need-loop-less Inv-loop μ-loop
-loop-less c = ?
-
--- src/lib.rt:29:5
 loop-again : tie.Need-loop-again Inv-loop μ-loop
-loop-again c = ?
+loop-again c =
+    let d = c .before .before .args .part .now in
+    let (l, n, e) = c .before .loop .inv in
+    let h : c .before .loop .i < length d = omega arith in
+    (omega arith, simp length-set n, rw e (fill-more (c .before .loop .i) 0 d h))
 
--- src/lib.rt:26:1
-same-length : tie.Need-same-length Inv-loop μ-loop
-same-length c = ?
-
--- src/lib.rt:26:1
 returns : tie.Need-returns Inv-loop μ-loop
-returns c = ?
+returns c =
+    let d = c .before .before .args .part .now in
+    let (l, n, e) = c .before .loop .inv in
+    let q : c .before .loop .i ≡ length d = omega arith in
+    rw (e, q, drop-length d, append-nil)
 
 pub clear-spec : {M : Type 1} → statement M
 clear-spec =
@@ -47,11 +42,11 @@ clear-spec =
     (tie.spec
     Inv-loop
     μ-loop
-    loop-holds
+    (λ c. (search needs, search needs, fill-none _ 0))
     mul-part
-    slice-write-part
-    add-i
-    loop-less
+    (λ c. omega arith)
+    (λ c. omega arith)
+    (λ c. omega arith)
     loop-again
-    same-length
+    (λ c. omega arith)
     returns)

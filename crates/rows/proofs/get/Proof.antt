@@ -1,55 +1,31 @@
+-- `rows::get` meets its contract: where the words have no bit for (a, b) it is not set.
+use mathlib.Core.Path.{sym}
 use borrow.Author.Needs.{needs}
+use Rattle.model.proofs.Words.{bit-wide, bit-past, bit-in}
 use Rattle.rows.proofs.get.Statement.{statement}
 use Rattle.rows.proofs.get.Tie as tie
 use Rattle.rows.proofs.get.Reads as reads
 use Rattle.rows.proofs.get.Lts as lts
 
--- src/lib.rt:16:13
-mul-if1 : tie.Need-mul-if1
-mul-if1 c = search needs
-
--- src/lib.rt:17:9
 returns : tie.Need-returns
-returns c = ?
+returns c = sym (bit-wide _ _ _ _ (c .if1 .taken))
 
--- src/lib.rt:19:13
-mul-i : tie.Need-mul-i
-mul-i c = search needs
-
--- src/lib.rt:19:13
-add-i : tie.Need-add-i
-add-i c = search needs
-
--- src/lib.rt:21:9
 returns-2 : tie.Need-returns-2
-returns-2 c = ?
+returns-2 c = sym (bit-past _ _ _ _ (c .if2 .taken))
 
--- src/lib.rt:23:6
-mul-result : tie.Need-mul-result
-mul-result c = search needs
-
--- src/lib.rt:23:6
-shared-slice-read-result : tie.Need-shared-slice-read-result
-shared-slice-read-result c = search needs
-
--- src/lib.rt:23:6
-shr-result : tie.Need-shr-result
-shr-result c = search needs
-
--- src/lib.rt:12:1
 returns-3 : tie.Need-returns-3
-returns-3 c = ?
+returns-3 c = sym (bit-in _ _ _ _ (c .before .before .if1 .left))
 
 pub get-spec : {M : Type 1} → statement M
 get-spec =
     tie.close
     (tie.spec
-    mul-if1
+    (λ c. search needs)
     returns
-    mul-i
-    add-i
+    (λ c. search needs)
+    (λ c. search needs)
     returns-2
-    mul-result
-    shared-slice-read-result
-    shr-result
+    (λ c. search needs)
+    (λ c. search needs)
+    (λ c. search needs)
     returns-3)

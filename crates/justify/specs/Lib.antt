@@ -1,0 +1,2 @@
+-- What the rules of a committing sequence are asked with, and the rules by number.
+pub mod Found

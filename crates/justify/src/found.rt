@@ -1,0 +1,86 @@
+// What is found once for E and E_i and kept in arrays, so that no rule searches for it at each pair of actions.
+ghost use mathlib.Core.Path.{_≡_};
+ghost use mathlib.Core.Bool.{Bool, true, false, not, _&&_};
+ghost use Prim.Native.Nat.{_≤_, _<_, _-_};
+ghost use lib.Dec.{leb};
+ghost use Rattle.model.specs.Limits.{maxActions, rowWords};
+ghost use Rattle.model.specs.Layout.{size, ident};
+ghost use Rattle.model.specs.WorkArea.{bit};
+ghost use Rattle.model.specs.Justified.{twin, «twin-of», new};
+ghost use Rattle.justify.specs.Found.{Holds, lower, stage, «stage-of», leads};
+use fields::{size, ident, commit};
+
+// The largest count of a section's actions.
+pub(crate) const ROOM: usize = 128;
+
+// i - 1, and 0 for 0.
+pub(crate) fn previous(i: u8) -> u8
+    ensures { λ r. ⌜ r ≡ i - 1 ⌝ }
+{
+    if i == 0 { 0 } else { i - 1 }
+}
+
+// The action of x with identifier d; x's size where there is none.
+pub(crate) fn twin(x: &[u8], d: u16) -> u16
+    ensures { λ r. ⌜ r ≡ twin (now (x .entry)) d ⌝ }
+{
+    let n = size(x);
+    for a in 0..n {
+        if ident(x, a) == d {
+            return a;
+        }
+    }
+    n
+}
+
+// The smaller of s and action a's commit number, where a's identifier is d.
+fn lower(e: &[u8], d: u16, a: u16, s: u16) -> u16
+    ensures { λ r. ⌜ r ≡ lower (now (e .entry)) d a s ⌝ }
+{
+    if ident(e, a) != d {
+        return s;
+    }
+    let c = commit(e, a) as u16;
+    if c < s { c } else { s }
+}
+
+// The least i for which the identifier d is in C_i.
+pub(crate) fn stage(e: &[u8], d: u16) -> u16
+    ensures { λ r. ⌜ r ≡ stage (now (e .entry)) d ⌝ }
+{
+    if d == 0 {
+        return 1;
+    }
+    let n = size(e);
+    let mut s = 65535;
+    for a in 0..n {
+        s = lower(e, d, a, s);
+    }
+    s
+}
+
+// The twin in f of each action of e.
+pub(crate) fn twins(e: &[u8], f: &[u8]) -> [u16; ROOM]
+    requires { ⌜ size (now e) ≤ maxActions ⌝ }
+    ensures { λ t. ⌜ Holds 0 t (size (now (e .entry))) (twin-of (now (e .entry)) (now (f .entry))) ⌝ }
+{
+    let n = size(e);
+    let mut t = [0u16; ROOM];
+    for a in 0..n {
+        t[a as usize] = twin(f, ident(e, a));
+    }
+    t
+}
+
+// The stage of each action of f.
+pub(crate) fn stages(e: &[u8], f: &[u8]) -> [u16; ROOM]
+    requires { ⌜ size (now f) ≤ maxActions ⌝ }
+    ensures { λ t. ⌜ Holds 0 t (size (now (f .entry))) (stage-of (now (e .entry)) (now (f .entry))) ⌝ }
+{
+    let n = size(f);
+    let mut t = [0u16; ROOM];
+    for x in 0..n {
+        t[x as usize] = stage(e, ident(f, x));
+    }
+    t
+}

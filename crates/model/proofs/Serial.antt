@@ -1,0 +1,3 @@
+-- The order of number 0.
+pub mod Counting
+pub mod Steps

@@ -1,0 +1,22 @@
+-- The sections as the reader meets them: by the byte at which one starts, and by its bounds in the record.
+use Prim.Native.Nat.{ℕ, suc, _+_, _≤_, min}
+use mathlib.Core.List.{List}
+use mathlib.Core.Bool.{Bool, not, cond, _||_}
+use lib.ListN.{length}
+use lib.Dec.{eqb, ltb}
+use Rattle.model.specs.Limits.{maxActions}
+use Rattle.model.specs.Layout.{two, past, start}
+use Rattle.model.specs.Refused.{fielded, met}
+use Rattle.record.specs.declared.Bounds.{Bounds}
+
+-- section s as far as the record has it
+unfoldable pub bounded : List ℕ → ℕ → Bounds
+bounded r s = record { at = min (start r s) (length r); end = min (start r (suc s)) (length r) }
+
+-- the section that starts at byte p is cut short, or its count is over the limit
+unfoldable pub cut-at : List ℕ → ℕ → Bool
+cut-at r p = ltb (length r) (p + 2) || ltb maxActions (two r p) || ltb (length r) (past r p)
+
+-- number 6, or else 7, is given for action a of section s, whose bytes are x
+unfoldable pub broken : ℕ → List ℕ → ℕ → List ℕ → ℕ → Bool
+broken N r s x a = cond (eqb N 6) (not (fielded r s x a)) (met x a)

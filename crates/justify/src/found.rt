@@ -1,14 +1,13 @@
 // What is found once for E and E_i and kept in arrays, so that no rule searches for it at each pair of actions.
 ghost use mathlib.Core.Path.{_≡_};
-ghost use mathlib.Core.Bool.{Bool, true, false, not, _&&_};
-ghost use Prim.Native.Nat.{_≤_, _<_, _-_};
-ghost use lib.Dec.{leb};
+ghost use mathlib.Core.Bool.{Bool, false, _&&_};
+ghost use Prim.Native.Nat.{_≤_, _-_};
 ghost use Rattle.model.specs.Limits.{maxActions, rowWords};
-ghost use Rattle.model.specs.Layout.{size, ident};
+ghost use Rattle.model.specs.Layout.{size};
 ghost use Rattle.model.specs.WorkArea.{bit};
-ghost use Rattle.model.specs.Justified.{twin, «twin-of», new};
-ghost use Rattle.justify.specs.Found.{Holds, lower, stage, «stage-of», leads};
-use fields::{size, ident, commit};
+ghost use Rattle.model.specs.Justified.{twin, «twin-of»};
+ghost use Rattle.justify.specs.Found.{Holds, lower, stage, «stage-of», fresh, leads};
+use fields::{commit, ident, size};
 
 // The largest count of a section's actions.
 pub(crate) const ROOM: usize = 128;
@@ -59,6 +58,16 @@ pub(crate) fn stage(e: &[u8], d: u16) -> u16
     s
 }
 
+// Whether an action of stage s is in C_i outside C_(i-1).
+pub(crate) fn fresh(s: u16, i: u8) -> bool
+    ensures { λ r. ⌜ r ≡ fresh s i ⌝ }
+{
+    if s > i as u16 {
+        return false;
+    }
+    s > previous(i) as u16
+}
+
 // The twin in f of each action of e.
 pub(crate) fn twins(e: &[u8], f: &[u8]) -> [u16; ROOM]
     requires { ⌜ size (now e) ≤ maxActions ⌝ }
@@ -83,4 +92,36 @@ pub(crate) fn stages(e: &[u8], f: &[u8]) -> [u16; ROOM]
         t[x as usize] = stage(e, ident(f, x));
     }
     t
+}
+
+// Whether y hb z, of stage s, in C_i outside C_(i-1).
+fn leads_to(part: &[u64], s: u16, i: u8, y: u16, z: u16) -> bool
+    ensures { λ r. ⌜ r ≡ (bit rowWords (now (part .entry)) y z && fresh s i) ⌝ }
+{
+    if rows::get(part, y, z) { fresh(s, i) } else { false }
+}
+
+// Whether y hb some action in C_i outside C_(i-1), of n actions whose stages are t.
+fn leads(part: &[u64], t: &[u16; ROOM], n: u16, i: u8, y: u16) -> bool
+    requires { ⌜ n ≤ maxActions ⌝ }
+    ensures { λ r. ⌜ r ≡ leads (bit rowWords (now (part .entry))) (now (t .entry)) n i y ⌝ }
+{
+    for z in 0..n {
+        if leads_to(part, t[z as usize], i, y, z) {
+            return true;
+        }
+    }
+    false
+}
+
+// Which of n actions lead to one in C_i outside C_(i-1).
+pub(crate) fn ahead(part: &[u64], t: &[u16; ROOM], n: u16, i: u8) -> [bool; ROOM]
+    requires { ⌜ n ≤ maxActions ⌝ }
+    ensures { λ l. ⌜ Holds false l n (leads (bit rowWords (now (part .entry))) (now (t .entry)) n i) ⌝ }
+{
+    let mut l = [false; ROOM];
+    for y in 0..n {
+        l[y as usize] = leads(part, t, n, i, y);
+    }
+    l
 }

@@ -3,3 +3,4 @@ pub mod Words
 pub mod Answers
 pub mod Bench
 pub mod Serial
+pub mod Closure

@@ -1,17 +1,21 @@
--- The sections as the reader meets them: by the byte at which one starts, and by its bounds in the record.
-use Prim.Native.Nat.{ℕ, suc, _+_, _≤_, min}
+-- What the reader's functions come to: the map, and the sections by the byte at which one starts and by its bounds in the record.
+use Prim.Native.Nat.{ℕ, suc, _+_, min}
 use mathlib.Core.List.{List}
-use mathlib.Core.Bool.{Bool, not, cond, _||_}
+use mathlib.Core.Bool.{Bool, not, cond, _&&_, _||_}
 use lib.ListN.{length}
-use lib.Dec.{eqb, ltb}
+use lib.Dec.{eqb, ltb, leb}
 use Rattle.model.specs.Limits.{maxActions}
-use Rattle.model.specs.Layout.{two, past, start}
+use Rattle.model.specs.Layout.{two, past, start, variables, volatile}
 use Rattle.model.specs.Refused.{fielded, met}
-use Rattle.record.specs.declared.Bounds.{Bounds}
+use Rattle.record.specs.declared.Span.{Span}
 
 -- section s as far as the record has it
-unfoldable pub bounded : List ℕ → ℕ → Bounds
+unfoldable pub bounded : List ℕ → ℕ → Span
 bounded r s = record { at = min (start r s) (length r); end = min (start r (suc s)) (length r) }
+
+-- bit v of the map is set, and v is no variable
+abbrev pub stray : List ℕ → ℕ → Bool
+stray r v = leb (variables r) v && volatile r v
 
 -- the section that starts at byte p is cut short, or its count is over the limit
 unfoldable pub cut-at : List ℕ → ℕ → Bool

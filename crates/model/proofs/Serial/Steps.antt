@@ -4,16 +4,31 @@ use native.Mathlib.Numerals.{add-one}
 use native.Mathlib.Omega.{arith}
 use mathlib.Core.Path.{_≡_, refl, sym, ap, _∙_}
 use mathlib.Core.List.{List, [], _∷_, _++_}
-use mathlib.Core.Bool.{Bool, true, false, not, cond, _&&_, _||_}
+use mathlib.Core.Bool.{Bool, true, false, not, cond, _&&_, _||_, or-false, and-eq-true-iff, false≢true}
 use lib.ListN.{length, getD, length-append, List·getD-append}
 use lib.Seq.{getD-at}
 use lib.Dec.{eqb, ltb, leb}
-use borrow.Author.Tests.{eqb-true, eqb-false, ltb-true, ltb-false, eq-eqb, ne-eqb, lt-ltb, le-ltb, le-leb, lt-leb}
+use borrow.Author.Tests.{eqb-true, eqb-false, ltb-true, ltb-false, not-true, eq-eqb, ne-eqb, lt-ltb, le-ltb, le-leb, lt-leb}
 use Rattle.model.specs.Search.{any, first, count}
 use Rattle.model.specs.Layout.{size, thread, place, sync}
 use Rattle.model.specs.Serial.{listed, next, due, ready, turn, serial}
 use Rattle.model.proofs.Search.{any-none, any-more, any-same, count-more, count-same, count-le, first-same}
 use Rattle.model.proofs.Serial.Counting.{First, first-is, first-upto}
+
+one-more : (a b : ℕ) → ltb a b || eqb b a ≡ ltb a (b + 1)
+one-more a b = go (ltb a b) refl (eqb b a) refl
+  where
+    go : (t : Bool) → ltb a b ≡ t → (u : Bool) → eqb b a ≡ u → t || u ≡ ltb a (b + 1)
+    go true e u q = sym (lt-ltb a (b + 1) (omega (arith, ltb-true a b e)))
+    go false e true q = sym (lt-ltb a (b + 1) (omega (arith, eqb-true b a q)))
+    go false e false q = sym (le-ltb a (b + 1) (omega (arith, ltb-false a b e, eqb-false b a q)))
+
+not-below : (a b : ℕ) → not (ltb a b) ≡ leb b a
+not-below a b = go (ltb a b) refl
+  where
+    go : (t : Bool) → ltb a b ≡ t → not t ≡ leb b a
+    go true e = sym (lt-leb b a (ltb-true a b e))
+    go false e = sym (le-leb b a (ltb-false a b e))
 
 -- tests of the entries of a list that is one longer
 module _ (q : ℕ → Bool) (l : List ℕ) (b : ℕ) where
@@ -62,27 +77,118 @@ module _ (x : List ℕ) where
   due-upto l = omega (arith, count-le (λ i. sync x (getD l i 0)) (length l))
 
   -- what is still to be listed of thread t
-  left : List ℕ → ℕ → ℕ → Bool
+  abbrev left : List ℕ → ℕ → ℕ → Bool
   left l t a = eqb (thread x a) t && not (listed l a)
 
   next-is : (l : List ℕ) (t : ℕ) → First (size x) (left l t) (next x l t)
-  unfolding next left
+  unfolding next
   next-is l t = first-is (left l t) (size x)
 
-  -- t's next action is t's, and not listed
-  pub next-thread : (l : List ℕ) (t : ℕ) → next x l t < size x → thread x (next x l t) ≡ t
-  unfolding left
-  next-thread l t h = ?
+  pub next-within : (l : List ℕ) (t : ℕ) → next x l t ≤ size x
+  next-within l t = next-is l t .within
 
-  -- an action of a thread that is not listed: its thread's next action stands at or before it
+  -- t's next action is t's, and not listed
+  next-left : (l : List ℕ) (t : ℕ) → next x l t < size x → (eqb (thread x (next x l t)) t ≡ true) × (not (listed l (next x l t)) ≡ true)
+  next-left l t h =
+      and-eq-true-iff (eqb (thread x (next x l t)) t) (not (listed l (next x l t))) .0 (next-is l t .holds h)
+
+  pub next-thread : (l : List ℕ) (t : ℕ) → next x l t < size x → thread x (next x l t) ≡ t
+  next-thread l t h = eqb-true (thread x (next x l t)) t (next-left l t h .0)
+
+  pub next-unlisted : (l : List ℕ) (t : ℕ) → next x l t < size x → listed l (next x l t) ≡ false
+  next-unlisted l t h = not-true (listed l (next x l t)) (next-left l t h .1)
+
+  -- an action that is not listed: its thread's next action is it or stands before it
   pub next-upto : (l : List ℕ) (a : ℕ) → listed l a ≡ false → next x l (thread x a) ≤ a
-  unfolding left next
+  unfolding next
   next-upto l a e = first-upto (left l (thread x a)) (size x) a (simp (e, eq-eqb (thread x a) (thread x a) refl))
 
   -- a position that isn't t's leaves t's next action
   pub next-kept : (l : List ℕ) (b t : ℕ) → (b < size x → thread x b ≡ t → ⊥) → next x (l ++ (b ∷ [])) t ≡ next x l t
   unfolding next
-  next-kept l b t f = first-same (left (l ++ (b ∷ [])) t) (left l t) (size x) same
+  next-kept l b t f =
+      first-same (left (l ++ (b ∷ [])) t) (left l t) (size x) (λ a h. same a h (eqb (thread x a) t) refl)
     where
-      same : (a : ℕ) → a < size x → left (l ++ (b ∷ [])) t a ≡ left l t a
-      same a h = ?
+      same : (a : ℕ) → a < size x → (u : Bool) → eqb (thread x a) t ≡ u → u && not (listed (l ++ (b ∷ [])) a) ≡ u && not (listed l a)
+      same a h true e =
+          let z : eqb b a ≡ false = ne-eqb b a (λ q. f (omega arith) (ap (thread x) q ∙ eqb-true (thread x a) t e)) in
+          rw (listed-more l b a, z, or-false)
+      same a h false e = refl
+
+  -- of each thread the actions before its next one are listed, and no others
+  abbrev pub Prefix : List ℕ → Type 0
+  Prefix l = (a : ℕ) → a < size x → listed l a ≡ ltb a (next x l (thread x a))
+
+  pub prefix-none : Prefix []
+  prefix-none a h = listed-none a ∙ sym (le-ltb a (next x [] (thread x a)) (next-upto [] a (listed-none a)))
+
+  -- t's next action is listed now, and the one after it is t's first from the position after on
+  module _ (l : List ℕ) (prefix : Prefix l) (t : ℕ) (h : next x l t < size x) where
+    moved : (a : ℕ) → a < size x → thread x a ≡ t → listed (l ++ (next x l t ∷ [])) a ≡ ltb a (next x l t + 1)
+    moved a m e = rw (listed-more l (next x l t) a, prefix a m, e) (one-more a (next x l t))
+
+    pub next-moved : next x (l ++ (next x l t ∷ [])) t ≡ first (size x) (λ a. eqb (thread x a) t && leb (next x l t + 1) a)
+    unfolding next
+    next-moved =
+        first-same (left (l ++ (next x l t ∷ [])) t) (λ a. eqb (thread x a) t && leb (next x l t + 1) a) (size x)
+        (λ a m. same a m (eqb (thread x a) t) refl)
+      where
+        same : (a : ℕ) → a < size x → (u : Bool) → eqb (thread x a) t ≡ u → u && not (listed (l ++ (next x l t ∷ [])) a) ≡ u && leb (next x l t + 1) a
+        same a m true e = rw (moved a m (eqb-true (thread x a) t e)) (not-below a (next x l t + 1))
+        same a m false e = refl
+
+    next-past : next x l t < next x (l ++ (next x l t ∷ [])) t
+    next-past = go (ltb (next x l t) (next x (l ++ (next x l t ∷ [])) t)) refl
+      where
+        go : (u : Bool) → ltb (next x l t) (next x (l ++ (next x l t ∷ [])) t) ≡ u → next x l t < next x (l ++ (next x l t ∷ [])) t
+        go true e = ltb-true (next x l t) (next x (l ++ (next x l t ∷ [])) t) e
+        go false e =
+            let c : ℕ = next x (l ++ (next x l t ∷ [])) t in
+            let q : c ≤ next x l t = ltb-false (next x l t) c e in
+            let m : c < size x = omega arith in
+            let z : listed (l ++ (next x l t ∷ [])) c ≡ true = moved c m (next-thread (l ++ (next x l t ∷ [])) t m) ∙ lt-ltb c (next x l t + 1) (omega arith) in
+            absurd (false≢true (sym (next-unlisted (l ++ (next x l t ∷ [])) t m) ∙ z))
+
+    prefix-moved : (a : ℕ) → a < size x → thread x a ≡ t → listed (l ++ (next x l t ∷ [])) a ≡ ltb a (next x (l ++ (next x l t ∷ [])) t)
+    prefix-moved a m e = moved a m e ∙ go (ltb a (next x l t + 1)) refl
+      where
+        go : (u : Bool) → ltb a (next x l t + 1) ≡ u → u ≡ ltb a (next x (l ++ (next x l t ∷ [])) t)
+        go true q =
+            sym (lt-ltb a (next x (l ++ (next x l t ∷ [])) t) (omega (arith, ltb-true a (next x l t + 1) q, next-past)))
+        go false q =
+            sym (le-ltb a (next x (l ++ (next x l t ∷ [])) t) (rw e at (next-upto (l ++ (next x l t ∷ [])) a (moved a m e ∙ q))))
+
+  -- Listing a thread's next action, or no position at all, keeps to this
+  pub prefix-more : (l : List ℕ) (b : ℕ) → Prefix l → (b < size x → b ≡ next x l (thread x b)) → Prefix (l ++ (b ∷ []))
+  prefix-more l b prefix f a h = go (ltb b (size x)) refl (eqb (thread x b) (thread x a)) refl
+    where
+      Kept : Type 0
+      Kept = listed (l ++ (b ∷ [])) a ≡ ltb a (next x (l ++ (b ∷ [])) (thread x a))
+
+      other : (b < size x → thread x b ≡ thread x a → ⊥) → Kept
+      other g =
+          rw (listed-more l b a, ne-eqb b a (λ q. g (omega arith) (ap (thread x) q)), or-false, next-kept l b (thread x a) g) (prefix a h)
+
+      own : b < size x → thread x b ≡ thread x a → Kept
+      own k e =
+          let q : b ≡ next x l (thread x a) = rw e at (f k) in
+          rw q (prefix-moved l prefix (thread x a) (omega arith) a h refl)
+
+      go : (u : Bool) → ltb b (size x) ≡ u → (w : Bool) → eqb (thread x b) (thread x a) ≡ w → Kept
+      go true p true q = own (ltb-true b (size x) p) (eqb-true (thread x b) (thread x a) q)
+      go true p false q = other (λ k. eqb-false (thread x b) (thread x a) q)
+      go false p w q = other (λ k e. omega (arith, ltb-false b (size x) p))
+
+  -- the position listed at a step is its thread's next action
+  pub turn-own : (l : List ℕ) → turn x l < size x → turn x l ≡ next x l (thread x (turn x l))
+  unfolding turn
+  turn-own l = go (ltb (first 16 (ready x l)) 16)
+    where
+      go : (u : Bool) → (let b = cond u (next x l (first 16 (ready x l))) (size x) in b < size x → b ≡ next x l (thread x b))
+      go true h = rw (next-thread l (first 16 (ready x l)) h)
+      go false h = absurd (let z : ⊥ = omega arith in z)
+
+  pub serial-prefix : (k : ℕ) → Prefix (serial x k)
+  unfolding serial
+  serial-prefix zero = prefix-none
+  serial-prefix (suc k) = prefix-more (serial x k) (turn x (serial x k)) (serial-prefix k) (turn-own (serial x k))

@@ -1,0 +1,4 @@
+-- Laws of the edges.
+pub mod Laws
+pub mod Marks
+pub mod Filled

@@ -1,0 +1,2 @@
+-- What a section's part holds, step by step.
+pub mod Edges

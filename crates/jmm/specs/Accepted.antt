@@ -1,0 +1,11 @@
+-- What the steps behind the refusals may go by.
+use Prim.Native.Nat.{ℕ, _*_, _<_, _≤_}
+use mathlib.Core.List.{List}
+use Rattle.model.specs.Limits.{maxActions, partWords}
+use Rattle.model.specs.Layout.{section, size}
+
+-- the first n sections of r are within their limits, and so are their parts within the words lent
+pub record Accepted (r : List ℕ) (n lent : ℕ) : Type 0 where
+  pub few : n ≤ 9
+  pub room : partWords * n ≤ lent
+  pub sized : (s : ℕ) → s < n → size (section r s) ≤ maxActions

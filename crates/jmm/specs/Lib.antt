@@ -1,0 +1,2 @@
+-- What the library's steps go by.
+pub mod Accepted

@@ -1,0 +1,5 @@
+-- The laws of what is found once, of the stages, of signed values and of the rules by number.
+pub mod Holds
+pub mod Stage
+pub mod Signed
+pub mod Numbered

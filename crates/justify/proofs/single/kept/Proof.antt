@@ -1,0 +1,49 @@
+-- `justify::single::kept` meets its contract. The loop's invariant: no action of f before x is like a.
+use Prim.Native.Nat.{ℕ, _≤_, _-_}
+use native.Mathlib.Omega.{arith}
+use mathlib.Core.Path.{_≡_, sym, _∙_}
+use mathlib.Core.Bool.{false}
+use borrow.Author.Needs.{needs}
+use Rattle.model.specs.Search.{any}
+use Rattle.model.proofs.Search.{any-none, any-pass, any-at}
+use Rattle.justify.specs.Numbered.{alike}
+use Rattle.justify.proofs.single.kept.Statement.{statement}
+use Rattle.justify.proofs.single.kept.Tie as tie
+
+abbrev Inv-loop : tie.InvT-loop
+Inv-loop e f a n x₀ x = (x ≤ n) × (any x (alike e f a) ≡ false)
+
+abbrev μ-loop : tie.MeasureT-loop
+μ-loop e f a n x₀ x = n - x
+
+loop-holds : tie.Need-loop-holds Inv-loop μ-loop
+loop-holds c = (search needs, any-none _)
+
+returns : tie.Need-returns Inv-loop μ-loop
+returns c =
+    sym (any-at _ _ (c .before .before .before .loop .x) (search needs) (sym (c .before .alike .ensures) ∙ c .if1 .taken))
+
+loop-again : tie.Need-loop-again Inv-loop μ-loop
+loop-again c =
+    (search needs,
+    any-pass _ _ (c .before .before .before .loop .inv .1) (sym (c .before .alike .ensures) ∙ c .if1 .left))
+
+returns-2 : tie.Need-returns-2 Inv-loop μ-loop
+returns-2 c =
+    let e : c .before .loop .x ≡ c .before .before .size .result = omega arith in
+    rw (← (c .before .before .size .ensures), ← e) (sym (c .before .loop .inv .1))
+
+pub kept-spec : {M : Type 1} → statement M
+kept-spec =
+    tie.close
+    (tie.spec
+    Inv-loop
+    μ-loop
+    (λ c κs. search needs)
+    loop-holds
+    (λ c κs. search needs)
+    returns
+    (λ c. search needs)
+    (λ c. search needs)
+    loop-again
+    returns-2)

@@ -1,0 +1,10 @@
+-- `justify::single::read` meets its contract.
+use borrow.Author.Needs.{needs}
+use Rattle.justify.proofs.single.read.Statement.{statement}
+use Rattle.justify.proofs.single.read.Tie as tie
+
+returns : tie.Need-returns
+returns c = cc
+
+pub read-spec : {M : Type 1} → statement M
+read-spec = tie.close (tie.spec (λ c κs. search needs) (λ c κs. search needs) returns)

@@ -1,0 +1,25 @@
+-- The searches of 28 for an edge between two identifiers, as the code goes through them.
+use Prim.Native.Nat.{ℕ}
+use mathlib.Core.List.{List}
+use mathlib.Core.Bool.{Bool, not, _&&_, _||_}
+use lib.Dec.{eqb, leb}
+use Rattle.model.specs.Search.{any}
+use Rattle.model.specs.Layout.{section, size, ident}
+use Rattle.model.specs.Relations.{sw}
+use Rattle.model.specs.Justified.{sw#}
+
+-- z stands between x and y in hb
+unfoldable pub through : (ℕ → ℕ → Bool) → ℕ → ℕ → ℕ → Bool
+through h x y z = h x z && h z y
+
+-- b has the identifier d, and a synchronizes with b
+unfoldable pub meets : List ℕ → ℕ → ℕ → ℕ → Bool
+meets x d a b = eqb (ident x b) d && sw x a b
+
+-- a has the identifier c, and synchronizes with an action that has d
+unfoldable pub joins : List ℕ → ℕ → ℕ → ℕ → Bool
+joins x c d a = eqb (ident x a) c && any (size x) (meets x d a)
+
+-- j is one of the sections in which the edge must stand, and there it does not
+unfoldable pub lacks : List ℕ → ℕ → ℕ → ℕ → ℕ → Bool
+lacks r i c d j = (leb i j || eqb j 0) && not (sw# (section r j) c d)

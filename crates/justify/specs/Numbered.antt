@@ -1,0 +1,59 @@
+-- The rules by number. e is section 0 of r and f section i, g and h are happens-before of the one and of the other.
+use Prim.Native.Nat.{ℕ, _+_, _<_, _≤_}
+use mathlib.Core.Path.{_≡_}
+use mathlib.Core.List.{List}
+use mathlib.Core.Bool.{Bool, true, false, cond, _&&_, _||_}
+use lib.Dec.{eqb, ltb, leb}
+use Rattle.model.specs.declared.Answer.{Answer}
+use Rattle.model.specs.Limits.{maxActions, rowWords}
+use Rattle.model.specs.Search.{any}
+use Rattle.model.specs.Answers.{pass, rule, rule₂}
+use Rattle.model.specs.Layout.{section, size, ident, thread, kind, target}
+use Rattle.model.specs.WorkArea.{bit}
+use Rattle.model.specs.Justified.{just-one, before, broken21, broken24, broken25, broken26, broken27, broken28, broken29, committing}
+
+-- x of f has a's identifier, thread, kind and target
+unfoldable pub alike : List ℕ → List ℕ → ℕ → ℕ → Bool
+alike e f a x =
+    eqb (ident f x) (ident e a) && eqb (thread f x) (thread e a) && eqb (kind f x) (kind e a) && eqb (target f x) (target e a)
+
+-- the rules of one action
+unfoldable pub single : ℕ → (ℕ → ℕ → Bool) → List ℕ → List ℕ → ℕ → ℕ → Bool
+single N h e f i =
+    cond (ltb N 26)
+    (cond (eqb N 21) (broken21 e f i) (cond (eqb N 24) (broken24 e f i) (broken25 e f i)))
+    (cond (eqb N 26) (broken26 h e f i) (broken27 e f i))
+
+-- the two rules of a relation that holds in just one of E and E_i
+unfoldable pub apart : ℕ → (ℕ → ℕ → Bool) → (ℕ → ℕ → Bool) → List ℕ → List ℕ → ℕ → ℕ → ℕ → Bool
+apart N g h e f i = cond (eqb N 22) (just-one g h e f i) (just-one (before e) (before f) e f i)
+
+-- the rules of two actions
+unfoldable pub paired : ℕ → (ℕ → ℕ → Bool) → (ℕ → ℕ → Bool) → List ℕ → List ℕ → List ℕ → ℕ → ℕ → ℕ → Bool
+paired N g h r e f i =
+    cond (ltb N 26) (apart N g h e f i) (cond (eqb N 28) (broken28 h r i) (broken29 h e f i))
+
+-- the count of the actions that rule N names
+abbrev pub span : ℕ → List ℕ → List ℕ → ℕ
+span N e f = cond (ltb N 26) (size e) (size f)
+
+-- rule N names two actions
+abbrev pub names-two : ℕ → Bool
+names-two N = eqb N 22 || eqb N 23 || leb 28 N
+
+unfoldable pub numbered : ℕ → (ℕ → ℕ → Bool) → (ℕ → ℕ → Bool) → List ℕ → List ℕ → List ℕ → ℕ → Answer
+numbered N g h r e f i =
+    cond (names-two N) (rule₂ N i (span N e f) (paired N g h r e f i)) (rule N i (span N e f) (single N h e f i))
+
+-- a is the first position below n at which p holds; n where there is none
+pub record First (n : ℕ) (p : ℕ → Bool) (a : ℕ) : Type 0 where
+  pub within : a ≤ n
+  pub none-before : any a p ≡ false
+  pub holds : a < n → p a ≡ true
+
+-- 21 to 29 for one i, by the words of the parts 0 and i, where both sections are within the limit
+unfoldable pub judged : List ℕ → List ℕ → List ℕ → ℕ → Answer
+judged r u v i =
+    cond (leb (size (section r 0)) maxActions && leb (size (section r i)) maxActions)
+    (committing (bit rowWords u) (bit rowWords v) r i)
+    pass

@@ -9,10 +9,8 @@ use Rattle.model.specs.Limits.{rowWords}
 use Rattle.model.specs.Layout.{size}
 use Rattle.model.specs.Relations.{po, sw}
 use Rattle.rows.specs.Steps.{marked}
+use Rattle.rows.proofs.Marked.{length-marked}
 use Rattle.hb.specs.Edges.{from, edges}
-
-length-marked : (W : ℕ) (ws : List ℕ) (a b : ℕ) → length (marked W ws a b) ≡ length ws
-length-marked W ws a b = ?
 
 module _ (x : List ℕ) (a : ℕ) (ws : List ℕ) where
   pub from-none : from x a 0 ws ≡ ws

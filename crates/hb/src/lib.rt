@@ -81,3 +81,18 @@ fn mark_edges(x: &[u8], part: &mut [u64])
         edges_from(x, part, a);
     }
 }
+// Fills a section's part, whatever stood there.
+pub fn fill(x: &[u8], part: &mut [u64])
+    ensures { λ r. ⌜ now (part .exit) ≡ happens (now (x .entry)) (now (part .entry)) ⌝ }
+{
+    if part.len() != PART {
+        return;
+    }
+    let n = size(x);
+    if ACTIONS < n {
+        return;
+    }
+    rows::clear(part);
+    mark_edges(x, part);
+    rows::close(part, n);
+}

@@ -5,8 +5,8 @@ use mathlib.Core.Bool.{Bool, not, _&&_, _||_}
 use lib.Dec.{eqb, leb}
 use Rattle.model.specs.Search.{any}
 use Rattle.model.specs.Layout.{section, size, ident}
-use Rattle.model.specs.Relations.{sw}
-use Rattle.model.specs.Justified.{sw#}
+use Rattle.model.specs.Relations.{po, sw}
+use Rattle.model.specs.Justified.{sw#, missing}
 
 -- z stands between x and y in hb
 unfoldable pub through : (ℕ → ℕ → Bool) → ℕ → ℕ → ℕ → Bool
@@ -23,3 +23,8 @@ joins x c d a = eqb (ident x a) c && any (size x) (meets x d a)
 -- j is one of the sections in which the edge must stand, and there it does not
 unfoldable pub lacks : List ℕ → ℕ → ℕ → ℕ → ℕ → Bool
 lacks r i c d j = (leb i j || eqb j 0) && not (sw# (section r j) c d)
+
+-- the edge from x to y of section f is not in program order, no action stands between its ends, and it is missing where it must stand
+unfoldable pub loose : (ℕ → ℕ → Bool) → List ℕ → List ℕ → ℕ → ℕ → ℕ → Bool
+loose h r f i x y =
+    not (po f x y) && not (any (size f) (through h x y)) && missing r i (ident f x) (ident f y)

@@ -26,7 +26,7 @@ single N h e f i =
 
 -- the two rules of a relation that holds in just one of E and E_i
 unfoldable pub apart : ℕ → (ℕ → ℕ → Bool) → (ℕ → ℕ → Bool) → List ℕ → List ℕ → ℕ → ℕ → ℕ → Bool
-apart N g h e f i = cond (eqb N 22) (just-one g h e f i) (just-one (before e) (before f) e f i)
+apart N g h e f i = just-one (cond (eqb N 22) g (before e)) (cond (eqb N 22) h (before f)) e f i
 
 -- the rules of two actions
 unfoldable pub paired : ℕ → (ℕ → ℕ → Bool) → (ℕ → ℕ → Bool) → List ℕ → List ℕ → List ℕ → ℕ → ℕ → ℕ → Bool

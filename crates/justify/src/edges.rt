@@ -1,6 +1,7 @@
 // What 28 asks of an edge: whether an action stands between its ends, and whether a section lacks it.
 ghost use mathlib.Core.Path.{_≡_};
-ghost use mathlib.Core.Bool.{not};
+ghost use mathlib.Core.Bool.{not, _||_};
+ghost use lib.Dec.{eqb, leb};
 ghost use Rattle.model.specs.Limits.{rowWords};
 ghost use Rattle.model.specs.Search.{any};
 ghost use Rattle.model.specs.Layout.{section, size};
@@ -79,16 +80,18 @@ fn has(r: &[u8], c: u16, d: u16, j: u8) -> bool
     joined(&r[at..end], c, d)
 }
 
+// Whether E_j is E_i or comes after it in the sequence, which E ends.
+fn later(i: u8, j: u8) -> bool
+    ensures { λ b. ⌜ b ≡ (leb i j || eqb j 0) ⌝ }
+{
+    if i <= j { true } else { j == 0 }
+}
+
 // Whether j is one of the sections in which the edge must stand, and there it does not.
 fn lacks(r: &[u8], i: u8, c: u16, d: u16, j: u8) -> bool
     ensures { λ b. ⌜ b ≡ lacks (now (r .entry)) i c d j ⌝ }
 {
-    if j < i {
-        if j != 0 {
-            return false;
-        }
-    }
-    !has(r, c, d, j)
+    if later(i, j) { !has(r, c, d, j) } else { false }
 }
 
 // Whether the edge is missing in some E_j, j from i to K, or in E.

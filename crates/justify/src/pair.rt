@@ -4,14 +4,13 @@ ghost use mathlib.Core.Bool.{Bool, not, _&&_};
 ghost use Prim.Native.Nat.{_<_};
 ghost use lib.Dec.{eqb, leb};
 ghost use Rattle.model.specs.Limits.{rowWords};
-ghost use Rattle.model.specs.Search.{any};
 ghost use Rattle.model.specs.Answers.{rule₂};
-ghost use Rattle.model.specs.Layout.{size, ident, kind};
-ghost use Rattle.model.specs.Relations.{po};
+ghost use Rattle.model.specs.Layout.{kind};
+ghost use Rattle.model.specs.Relations.{sw};
 ghost use Rattle.model.specs.WorkArea.{bit};
-ghost use Rattle.model.specs.Justified.{«twin-of», before, sufficient, missing};
+ghost use Rattle.model.specs.Justified.{«twin-of», before};
 ghost use Rattle.justify.specs.Found.{Found, Led};
-ghost use Rattle.justify.specs.Edge.{through};
+ghost use Rattle.justify.specs.Edge.{loose};
 ghost use Rattle.justify.specs.Numbered.{apart, paired, span, First};
 use crate::edges::{between, missing};
 use crate::found::ROOM;
@@ -20,7 +19,8 @@ use fields::{ident, kind, place, size};
 use hb::{po, sw};
 use model::Answer;
 
-fn before(x: &[u8], a: u16, b: u16) -> bool
+// Whether a's place is below b's.
+fn earlier(x: &[u8], a: u16, b: u16) -> bool
     ensures { λ r. ⌜ r ≡ before (now (x .entry)) a b ⌝ }
 {
     place(x, a) < place(x, b)
@@ -36,7 +36,7 @@ fn apart(number: u8, e: &[u8], f: &[u8], e_part: &[u64], f_part: &[u64], x: u16,
             if number == 22 {
                 return rows::get(e_part, a, b) != rows::get(f_part, x, y);
             }
-            return before(e, a, b) != before(f, x, y);
+            return earlier(e, a, b) != earlier(f, x, y);
         }
     }
     false
@@ -44,7 +44,7 @@ fn apart(number: u8, e: &[u8], f: &[u8], e_part: &[u64], f_part: &[u64], x: u16,
 
 // Whether an edge from x to y is not in program order, no action stands between, and it is missing where it must stand.
 fn loose(r: &[u8], f: &[u8], part: &[u64], i: u8, x: u16, y: u16) -> bool
-    ensures { λ b. ⌜ b ≡ (not (po (now (f .entry)) x y) && not (any (size (now (f .entry))) (through (bit rowWords (now (part .entry))) x y)) && missing (now (r .entry)) i (ident (now (f .entry)) x) (ident (now (f .entry)) y)) ⌝ }
+    ensures { λ b. ⌜ b ≡ loose (bit rowWords (now (part .entry))) (now (r .entry)) (now (f .entry)) i x y ⌝ }
 {
     if po(f, x, y) {
         return false;
@@ -57,7 +57,7 @@ fn loose(r: &[u8], f: &[u8], part: &[u64], i: u8, x: u16, y: u16) -> bool
 
 // `leading` says whether y hb some action in C_i outside C_(i-1).
 fn broken28(r: &[u8], f: &[u8], part: &[u64], leading: bool, i: u8, x: u16, y: u16) -> bool
-    ensures { λ b. ⌜ b ≡ (sufficient (bit rowWords (now (part .entry))) (now (f .entry)) x y && leading && missing (now (r .entry)) i (ident (now (f .entry)) x) (ident (now (f .entry)) y)) ⌝ }
+    ensures { λ b. ⌜ b ≡ (leading && (sw (now (f .entry)) x y && loose (bit rowWords (now (part .entry))) (now (r .entry)) (now (f .entry)) i x y)) ⌝ }
 {
     if leading {
         if sw(f, x, y) {

@@ -62,8 +62,9 @@ module _ (e : ℕ → ℕ → Bool) where
     where
       at : c ≡ k → reach e (suc k) a b ≡ true
       at q = through k a b (sym (column-stays k a) ∙ (rw q at f)) (sym (row-stays k b) ∙ (rw q at g))
+
       below :
-        ((s t : ℕ) → reach e k s c ≡ true → reach e k c t ≡ true → reach e k s t ≡ true) → Ways k a c → Ways k c b →
+          ((s t : ℕ) → reach e k s c ≡ true → reach e k c t ≡ true → reach e k s t ≡ true) → Ways k a c → Ways k c b →
           reach e (suc k) a b ≡ true
       below m (inl s) (inl t) = stays k a b (m a b s t)
       below m (inl s) (inr t) = through k a b (m a k s (t .0)) (t .1)
@@ -108,7 +109,7 @@ reach-flip e (suc k) a b =
     rw (reach-flip e k a b, reach-flip e k a k, reach-flip e k k b, and-comm (reach e k k a) (reach e k b k))
 
 module _ (x : List ℕ) where
-  edge-within : (a b : ℕ) → edge x a b ≡ true → (a < size x) × (b < size x)
+  pub edge-within : (a b : ℕ) → edge x a b ≡ true → (a < size x) × (b < size x)
   unfolding edge
   edge-within a b h =
       let (both, rest) = and-eq-true-iff (ltb a (size x) && ltb b (size x)) (po x a b || sw x a b) .0 h in

@@ -1,8 +1,8 @@
 -- The words of rows of bits, over the width W of a row: rows hold the relation that they are made of, and no other words hold it.
 use Prim.Native.Nat.{ℕ, zero, suc, _+_, _*_, _-_, _/_, _%_, _^_, _<_, _≤_}
 use mathlib.Core.Path.{_≡_, refl, sym, ap, ap₂, subst, fun-ext, _∙_}
-use mathlib.Core.List.{List, [], _∷_, _++_}
-use mathlib.Core.Bool.{Bool, true, false, cond, _&&_, and-false, true≢false, false≢true}
+use mathlib.Core.List.{List, [], _∷_}
+use mathlib.Core.Bool.{Bool, true, false, cond, and-false, true≢false, false≢true}
 use mathlib.Core.Logic.{⊎-elim}
 use mathlib.Mathlib.Data.Bool.Basic.{eq-false-of-not-eq-true}
 use native.Mathlib.Nat.{zero-div, add-zero, add-div-right, div-eq-of-lt, div-add-mod, mod-lt, add-mod-right, mul-comm, mul-le-mul-left, two-pow-succ, eq-or-lt-of-le, le-of-suc-le-suc, not-suc-le-zero}
@@ -11,7 +11,7 @@ use native.Mathlib.Decide.{decLt}
 use native.Mathlib.Omega.{arith}
 use lib.ListN.{length, getD, length-append, List·getD-append, List·getD-eq-default}
 use lib.Seq.{getD-at, ext-getD}
-use lib.Dec.{eqb, ltb, lit<}
+use lib.Dec.{eqb, lit<}
 use lib.Arith.{digits-div, digits-mod, digits-lt}
 use lib.Pow.{pow-pos, split, field, mod-mod-pow, shr-lt}
 use borrow.Author.Tests.{lt-ltb, le-ltb}
@@ -90,8 +90,8 @@ same-bits (suc k) u v hu hv h =
     let below : (n : ℕ) → n < 2 ^ suc k → n / 2 ^ k < 2 = λ n l. shr-lt 1 k (rw one-add l) in
     let top : u / 2 ^ k ≡ v / 2 ^ k = same-digit (u / 2 ^ k) (v / 2 ^ k) (below u hu) (below v hv) (h k (omega arith)) in
     let rest : u % 2 ^ k ≡ v % 2 ^ k =
-      same-bits k (u % 2 ^ k) (v % 2 ^ k) (mod-lt u (pow-pos k)) (mod-lt v (pow-pos k))
-      (λ j l. on-mod u k j l ∙ h j (omega arith) ∙ sym (on-mod v k j l)) in
+    same-bits k (u % 2 ^ k) (v % 2 ^ k) (mod-lt u (pow-pos k)) (mod-lt v (pow-pos k))
+    (λ j l. on-mod u k j l ∙ h j (omega arith) ∙ sym (on-mod v k j l)) in
     sym (split u k) ∙ ap₂ (λ (q r : ℕ). q * 2 ^ k + r) top rest ∙ split v k
 
 -- what a bit of rows is
@@ -136,8 +136,8 @@ module _ (W n : ℕ) (p : ℕ → ℕ → Bool) where
   pub words-rows : Words (rows W n p)
   words-rows w =
       elim (decLt w n) [
-        yes l ↦ rw (getD-rows w l) (bits-lt 64 (word w))
-      | no g ↦ rw (List·getD-eq-default (rows W n p) 0 {n = w} (rw length-rows (omega arith))) (lit< tt)
+        | yes l ↦ rw (getD-rows w l) (bits-lt 64 (word w))
+        | no g ↦ rw (List·getD-eq-default (rows W n p) 0 {n = w} (rw length-rows (omega arith))) (lit< tt)
       ]
 
   -- rows hold the relation that they are made of
@@ -152,7 +152,7 @@ module _ (W n : ℕ) (p : ℕ → ℕ → Bool) where
 
   -- and no other words of 64 bits hold it
   pub is-rows :
-    0 < W → (ws : List ℕ) → length ws ≡ n → Words ws →
+      0 < W → (ws : List ℕ) → length ws ≡ n → Words ws →
       ((a b : ℕ) → b < 64 * W → W * a + b / 64 < n → bit W ws a b ≡ p a b) → ws ≡ rows W n p
   is-rows pos ws len small h = ext-getD 0 ws (rows W n p) (len ∙ sym length-rows) same
     where
@@ -167,7 +167,7 @@ module _ (W n : ℕ) (p : ℕ → ℕ → Bool) where
 
 -- no second list of words has the same bits
 pub same-words :
-  (W : ℕ) → 0 < W → (us vs : List ℕ) → length us ≡ length vs → Words us → Words vs →
+    (W : ℕ) → 0 < W → (us vs : List ℕ) → length us ≡ length vs → Words us → Words vs →
     ((a b : ℕ) → bit W us a b ≡ bit W vs a b) → us ≡ vs
 same-words W pos us vs len small small′ h =
     is-rows W (length vs) (bit W vs) pos us len small (λ a b k l. h a b)
@@ -175,23 +175,23 @@ same-words W pos us vs len small small′ h =
 
 -- N whole rows hold a relation of positions for which they have bits, and nothing more
 pub bit-rows-all :
-  (W N : ℕ) (p : ℕ → ℕ → Bool) → ((a b : ℕ) → p a b ≡ true → (a < N) × (b < 64 * W)) → bit W (rows W (W * N) p) ≡ p
+    (W N : ℕ) (p : ℕ → ℕ → Bool) → ((a b : ℕ) → p a b ≡ true → (a < N) × (b < 64 * W)) → bit W (rows W (W * N) p) ≡ p
 bit-rows-all W N p within = fun-ext (λ a. fun-ext (λ b. at a b))
   where
     at : (a b : ℕ) → bit W (rows W (W * N) p) a b ≡ p a b
     at a b =
         elim (decLt b (64 * W)) [
-          no g ↦ bit-wide W (rows W (W * N) p) a b (omega arith) ∙ sym (eq-false-of-not-eq-true (λ t. g (within a b t .1)))
-        | yes h ↦
-          elim (decLt a N) [
-            no g ↦
-            let m : W * N ≤ W * a = mul-le-mul-left W (omega arith) in
-            bit-past W (rows W (W * N) p) a b (rw (length-rows W (W * N) p) (omega arith))
-            ∙ sym (eq-false-of-not-eq-true (λ t. g (within a b t .0)))
-          | yes l ↦
-            let r : b / 64 < W = omega arith in
-            bit-rows W (W * N) p a b h (rw (mul-comm W a, mul-comm W N) (digits-lt l r))
-          ]
+          | no g ↦ bit-wide W (rows W (W * N) p) a b (omega arith) ∙ sym (eq-false-of-not-eq-true (λ t. g (within a b t .1)))
+          | yes h ↦
+              elim (decLt a N) [
+                | no g ↦
+                    let m : W * N ≤ W * a = mul-le-mul-left W (omega arith) in
+                    bit-past W (rows W (W * N) p) a b (rw (length-rows W (W * N) p) (omega arith))
+                    ∙ sym (eq-false-of-not-eq-true (λ t. g (within a b t .0)))
+                | yes l ↦
+                    let r : b / 64 < W = omega arith in
+                    bit-rows W (W * N) p a b h (rw (mul-comm W a, mul-comm W N) (digits-lt l r))
+              ]
         ]
 
 -- the words of a section's part hold its happens-before

@@ -204,13 +204,13 @@ fn committed_in(last: u8, s: u8, c: u8) -> bool
     if s != 0 {
         return c == 0;
     }
-    if last == 0 {
-        return c == 0;
-    }
-    if c == 0 {
+    if c > last {
         return false;
     }
-    c <= last
+    if last == 0 {
+        return true;
+    }
+    c >= 1
 }
 
 // Action a of section s, whose bytes are x, is as the two tables say.

@@ -12,8 +12,8 @@ use Rattle.model.proofs.Words.{Words, on-zero, is-rows}
 getD-cleared : (n i : ℕ) → getD {A = ℕ} (replicate n 0) i 0 ≡ 0
 getD-cleared n i =
     elim (decLt i n) [
-      yes h ↦ getD-replicate n i 0 0 h
-    | no g ↦ List·getD-eq-default (replicate n 0) 0 {n = i} (rw (length-replicate {A = ℕ} n 0) (omega arith))
+      | yes h ↦ getD-replicate n i 0 0 h
+      | no g ↦ List·getD-eq-default (replicate n 0) 0 {n = i} (rw (length-replicate {A = ℕ} n 0) (omega arith))
     ]
 
 pub words-cleared : (n : ℕ) → Words (replicate n 0)

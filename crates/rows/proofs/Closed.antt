@@ -2,12 +2,11 @@
 use Prim.Native.Nat.{ℕ, _*_, _<_, _≤_}
 use mathlib.Core.Path.{_≡_, sym, fun-ext, _∙_}
 use mathlib.Core.List.{List}
-use mathlib.Core.Bool.{Bool, true, false, _&&_, and-false}
+use mathlib.Core.Bool.{Bool, true, and-false}
 use mathlib.Mathlib.Data.Bool.Basic.{eq-false-of-not-eq-true}
-use native.Mathlib.Decide.{decLt}
+use native.Mathlib.Decide.{decLe, decLt, ℕ-discrete}
 use native.Mathlib.Omega.{arith}
 use lib.ListN.{length}
-use lib.Dec.{eqb, leb}
 use borrow.Author.Tests.{lt-ltb, le-ltb, le-leb, lt-leb, eq-eqb, ne-eqb}
 use Rattle.model.specs.Relations.{reach}
 use Rattle.model.specs.WorkArea.{rows, bit}
@@ -31,10 +30,10 @@ closing-all e n within = fun-ext (λ a. fun-ext (λ b. at a b))
     at : (a b : ℕ) → closing e n a b ≡ reach e n a b
     at a b =
         elim (decLt a n) [
-          yes h ↦ closing-in e n a b h
-        | no g ↦
-          closing-out e n a b (omega arith) ∙ eq-false-of-not-eq-true (λ t. g (within a b t .0))
-          ∙ sym (eq-false-of-not-eq-true (λ t. g (reach-within e n within n a b t .0)))
+          | yes h ↦ closing-in e n a b h
+          | no g ↦
+              closing-out e n a b (omega arith) ∙ eq-false-of-not-eq-true (λ t. g (within a b t .0))
+              ∙ sym (eq-false-of-not-eq-true (λ t. g (reach-within e n within n a b t .0)))
         ]
 
 module _ (W N : ℕ) (ws : List ℕ) (n : ℕ) where
@@ -50,9 +49,20 @@ module _ (W N : ℕ) (ws : List ℕ) (n : ℕ) where
   unfolding closed
   closed-other h = rw (ne-eqb (length ws) (W * N) h)
 
+  pub length-closed : length (closed W N ws n) ≡ length ws
+  length-closed =
+      elim (ℕ-discrete (length ws) (W * N)) [
+        | no other ↦ rw (closed-other other)
+        | yes len ↦
+            elim (decLe n N) [
+              | yes fits ↦ rw (closed-rows len fits) (length-rows W (W * N) (closing (bit W ws) n) ∙ sym len)
+              | no g ↦ rw (closed-many (omega arith))
+            ]
+      ]
+
 -- the rows of a relation of the first n positions, closed, are those of what it reaches
 pub closed-reach :
-  (W N : ℕ) (p : ℕ → ℕ → Bool) (n : ℕ) → n ≤ N → n ≤ 64 * W → ((a b : ℕ) → p a b ≡ true → (a < n) × (b < n)) →
+    (W N : ℕ) (p : ℕ → ℕ → Bool) (n : ℕ) → n ≤ N → n ≤ 64 * W → ((a b : ℕ) → p a b ≡ true → (a < n) × (b < n)) →
     closed W N (rows W (W * N) p) n ≡ rows W (W * N) (reach p n)
 closed-reach W N p n fits wide within =
     closed-rows W N (rows W (W * N) p) n (length-rows W (W * N) p) fits

@@ -1,8 +1,8 @@
 -- A bit set in the words of rows W words wide.
 use Prim.Native.Nat.{ℕ, _+_, _*_, _/_, _%_, _^_, _<_, _≤_}
-use mathlib.Core.Path.{_≡_, refl, sym, ap, _∙_}
+use mathlib.Core.Path.{_≡_, refl, sym, _∙_}
 use mathlib.Core.List.{List}
-use mathlib.Core.Bool.{Bool, true, false, _&&_, _||_, or-true, or-false, and-false}
+use mathlib.Core.Bool.{Bool, true, _&&_, _||_, or-true, or-false, and-false}
 use native.Mathlib.Decide.{decLt, ℕ-discrete}
 use native.Mathlib.Omega.{arith}
 use lib.ListN.{length, getD, set, length-set}
@@ -38,15 +38,15 @@ module _ (W : ℕ) (ws : List ℕ) (a b : ℕ) where
   pub length-marked : length (marked W ws a b) ≡ length ws
   length-marked =
       elim (decLt b (64 * W)) [
-        yes h ↦ rw (marked-in h) (length-set ws at more)
-      | no g ↦ rw (marked-wide (omega arith))
+        | yes h ↦ rw (marked-in h) (length-set ws at more)
+        | no g ↦ rw (marked-wide (omega arith))
       ]
 
   pub words-marked : Words ws → Words (marked W ws a b)
   words-marked small =
       elim (decLt b (64 * W)) [
-        yes h ↦ rw (marked-in h) (words-set ws at more (or-lt 64 _ _ (small at) (pow-lt {i = b % 64} {j = 64} (omega arith))) small)
-      | no g ↦ rw (marked-wide (omega arith)) small
+        | yes h ↦ rw (marked-in h) (words-set ws at more (or-lt 64 _ _ (small at) (pow-lt {i = b % 64} {j = 64} (omega arith))) small)
+        | no g ↦ rw (marked-wide (omega arith)) small
       ]
 
   marked-same : b < 64 * W → at < length ws → bit W (marked W ws a b) a b ≡ true
@@ -65,34 +65,34 @@ module _ (W : ℕ) (ws : List ℕ) (a b : ℕ) where
   marked-other : (c d : ℕ) → (c ≡ a → d ≡ b → ⊥) → bit W (marked W ws a b) c d ≡ bit W ws c d
   marked-other c d other =
       elim (decLt b (64 * W)) [
-        no g ↦ rw (marked-wide (omega arith))
-      | yes h ↦
-        elim (decLt at (length ws)) [
-          no g ↦ rw (marked-past h (omega arith))
-        | yes l ↦
-          elim (ℕ-discrete c a) [
-            no n ↦ rw (marked-in h) (bit-set-other W ws a (b / 64) more (omega arith) c d (λ e q. n e))
-          | yes e ↦
-            elim (ℕ-discrete (d / 64) (b / 64)) [
-              no n ↦ rw (marked-in h) (bit-set-other W ws a (b / 64) more (omega arith) c d (λ e q. n q))
-            | yes q ↦ rw e (marked-beside h l d q (other e))
+        | no g ↦ rw (marked-wide (omega arith))
+        | yes h ↦
+            elim (decLt at (length ws)) [
+              | no g ↦ rw (marked-past h (omega arith))
+              | yes l ↦
+                  elim (ℕ-discrete c a) [
+                    | no n ↦ rw (marked-in h) (bit-set-other W ws a (b / 64) more (omega arith) c d (λ e q. n e))
+                    | yes e ↦
+                        elim (ℕ-discrete (d / 64) (b / 64)) [
+                          | no n ↦ rw (marked-in h) (bit-set-other W ws a (b / 64) more (omega arith) c d (λ e q. n q))
+                          | yes q ↦ rw e (marked-beside h l d q (other e))
+                        ]
+                  ]
             ]
-          ]
-        ]
       ]
 
   -- the bits after, where (c, d) is another pair or the words have a bit for (a, b)
   bits-marked :
-    (c d : ℕ) → (c ≡ a → d ≡ b → (b < 64 * W) × (at < length ws)) →
+      (c d : ℕ) → (c ≡ a → d ≡ b → (b < 64 * W) × (at < length ws)) →
       bit W (marked W ws a b) c d ≡ bit W ws c d || eqb c a && eqb d b
   bits-marked c d inside =
       elim (ℕ-discrete c a) [
-        no n ↦ rw (ne-eqb c a n) (marked-other c d (λ e q. n e) ∙ sym (or-false (bit W ws c d)))
-      | yes e ↦
-        elim (ℕ-discrete d b) [
-          no n ↦ rw (ne-eqb d b n, and-false, or-false) (marked-other c d (λ e q. n q))
-        | yes q ↦ let (h, l) = inside e q in rw (e, q, eq-eqb a a refl, eq-eqb b b refl, or-true) (marked-same h l)
-        ]
+        | no n ↦ rw (ne-eqb c a n) (marked-other c d (λ e q. n e) ∙ sym (or-false (bit W ws c d)))
+        | yes e ↦
+            elim (ℕ-discrete d b) [
+              | no n ↦ rw (ne-eqb d b n, and-false, or-false) (marked-other c d (λ e q. n q))
+              | yes q ↦ let (h, l) = inside e q in rw (e, q, eq-eqb a a refl, eq-eqb b b refl, or-true) (marked-same h l)
+            ]
       ]
 
   pub bit-marked : b < 64 * W → at < length ws → (c d : ℕ) → bit W (marked W ws a b) c d ≡ bit W ws c d || eqb c a && eqb d b
@@ -100,7 +100,7 @@ module _ (W : ℕ) (ws : List ℕ) (a b : ℕ) where
 
 -- rows of a relation, with one pair more
 pub marked-rows :
-  (W n : ℕ) (p : ℕ → ℕ → Bool) (a b : ℕ) → 0 < W → marked W (rows W n p) a b ≡ rows W n (λ c d. p c d || eqb c a && eqb d b)
+    (W n : ℕ) (p : ℕ → ℕ → Bool) (a b : ℕ) → 0 < W → marked W (rows W n p) a b ≡ rows W n (λ c d. p c d || eqb c a && eqb d b)
 marked-rows W n p a b pos =
     is-rows W n (λ c d. p c d || eqb c a && eqb d b) pos (marked W (rows W n p) a b)
     (length-marked W (rows W n p) a b ∙ length-rows W n p)

@@ -7,8 +7,10 @@ ghost use Rattle.model.specs.WorkArea.{bit};
 ghost use Rattle.rows.specs.Steps.{marked, closed};
 ghost use Rattle.rows.specs.Rounds.{Joined, Round};
 
-// Words a row, and rows a part.
+// Words a row.
 const W: usize = 2;
+
+// Rows a part.
 const MAX_ACTIONS: usize = 128;
 
 // Whether the bit for (a, b) is set; it is not where the words have no such bit.
@@ -27,7 +29,7 @@ pub fn get(part: &[u64], a: u16, b: u16) -> bool
 }
 
 pub fn clear(part: &mut [u64])
-    ensures { λ r. ⌜ now (part .exit) ≡ replicate (length (now (part .entry))) 0 ⌝ }
+    ensures { λ _. ⌜ now (part .exit) ≡ replicate (length (now (part .entry))) 0 ⌝ }
 {
     for i in 0..part.len() {
         part[i] = 0;
@@ -36,7 +38,7 @@ pub fn clear(part: &mut [u64])
 
 // Sets the bit for (a, b), where the words have it.
 pub fn set(part: &mut [u64], a: u16, b: u16)
-    ensures { λ r. ⌜ now (part .exit) ≡ marked rowWords (now (part .entry)) a b ⌝ }
+    ensures { λ _. ⌜ now (part .exit) ≡ marked rowWords (now (part .entry)) a b ⌝ }
 {
     let b = b as usize;
     if b >= 64 * W {
@@ -53,7 +55,7 @@ pub fn set(part: &mut [u64], a: u16, b: u16)
 fn or_row(part: &mut [u64], to: u16, from: u16)
     requires { ⌜ rowWords * to + rowWords ≤ length (now part) ⌝ }
     requires { ⌜ rowWords * from + rowWords ≤ length (now part) ⌝ }
-    ensures { λ r. ⌜ Joined rowWords (now (part .entry)) (now (part .exit)) to from rowWords ⌝ }
+    ensures { λ _. ⌜ Joined rowWords (now (part .entry)) (now (part .exit)) to from rowWords ⌝ }
 {
     for j in 0..W {
         let i = W * to as usize + j;
@@ -65,7 +67,7 @@ fn or_row(part: &mut [u64], to: u16, from: u16)
 fn round(part: &mut [u64], n: u16, k: u16)
     requires { ⌜ rowWords * n ≤ length (now part) ⌝ }
     requires { ⌜ k < n ⌝ }
-    ensures { λ r. ⌜ Round rowWords (now (part .entry)) (now (part .exit)) k n ⌝ }
+    ensures { λ _. ⌜ Round rowWords (now (part .entry)) (now (part .exit)) k n ⌝ }
 {
     for a in 0..n {
         if get(part, a, k) {
@@ -76,7 +78,7 @@ fn round(part: &mut [u64], n: u16, k: u16)
 
 // Closes the first n rows in place: a round leaves row k and column k as they are, so no second copy of the rows is needed.
 pub fn close(part: &mut [u64], n: u16)
-    ensures { λ r. ⌜ now (part .exit) ≡ closed rowWords maxActions (now (part .entry)) n ⌝ }
+    ensures { λ _. ⌜ now (part .exit) ≡ closed rowWords maxActions (now (part .entry)) n ⌝ }
 {
     if part.len() != W * MAX_ACTIONS {
         return;

@@ -1,19 +1,18 @@
 -- A step over what the code keeps is a step of the order.
-use Prim.Native.Nat.{ℕ, suc, _+_, _<_, _≤_}
-use native.Mathlib.Numerals.{add-one}
+use Prim.Native.Nat.{ℕ, _+_, _<_, _≤_}
 use native.Mathlib.Omega.{arith}
 use mathlib.Core.Path.{_≡_, refl, sym, ap, _∙_}
-use mathlib.Core.List.{List, [], _∷_, _++_, append-assoc}
+use mathlib.Core.List.{List, [], _∷_, _++_}
 use mathlib.Core.Bool.{Bool, true, false, not, cond, _&&_, _||_, and-eq-true-iff}
-use lib.ListN.{length, getD, set, drop, length-set, length-append, length-drop}
-use lib.Seq.{drop-cons, set-at, getD-set-same, getD-set-other}
+use lib.ListN.{length, getD, set, length-set}
+use lib.Seq.{getD-set-same, getD-set-other}
 use lib.Dec.{eqb, ltb, leb, leb·zero}
 use borrow.Author.Tests.{ltb-true, ltb-false, eqb-true, eqb-false, lt-ltb, le-ltb}
 use Rattle.model.specs.Layout.{size, thread, place, sync}
 use Rattle.model.specs.Search.{first, count}
 use Rattle.model.specs.Serial.{listed, next, due, ready, turn, serial}
 use Rattle.model.proofs.Search.{first-same}
-use Rattle.model.proofs.Serial.Counting.{first-is}
+use Rattle.model.proofs.Serial.Searches.{first-is}
 use Rattle.model.proofs.Serial.Steps.{listed-none, due-more, due-upto, serial-more, length-serial, next-thread, next-kept, next-moved, serial-prefix}
 use Rattle.serial.specs.Cursors.{action-from, ready-at, lowest, turn-at, moved, Starts}
 
@@ -141,10 +140,3 @@ module _ (x : List ℕ) (k : ℕ) (cs : List ℕ) (d : ℕ) (kept : Kept x k cs 
 
   pub kept-step : (a : ℕ) (ds : List ℕ) (e : ℕ) → a ≡ turn-at x cs d → ds ≡ moved x cs d → e ≡ d + cond (sync x a) 1 0 → Kept x (k + 1) ds e
   kept-step a ds e p q r = rw (q, r, p) kept-more
-
--- the list after one entry more
-pub listed-more : (x l : List ℕ) (k : ℕ) → k < length l → set (serial x k ++ drop k l) k (turn x (serial x k)) ≡ serial x (k + 1) ++ drop (k + 1) l
-listed-more x l k h = rw (drop-cons l k 0, set-at (serial x k) (getD l k 0) (drop (suc k) l) (turn x (serial x k)) k (length-serial x k), serial-more, append-assoc, add-one)
-
-pub listed-length : (x l : List ℕ) (k : ℕ) → k ≤ length l → length (serial x k ++ drop k l) ≡ length l
-listed-length x l k h = rw (length-append, length-serial, length-drop) (omega arith)

@@ -91,6 +91,7 @@ pub fn serial(x: &[u8], list: &mut [u16])
         return;
     }
     let mut next = starts(x);
+    // One more than the synchronization actions listed, which may be 65535.
     let mut due: u32 = 1;
     for k in 0..n {
         let a = turn(x, &mut next, due);

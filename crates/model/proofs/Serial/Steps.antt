@@ -1,21 +1,23 @@
 -- One step of the order: what is listed, which action is next and which place is due once one position more stands in the list. For every section x.
 use Prim.Native.Nat.{ℕ, zero, suc, _+_, _<_, _≤_}
 use native.Mathlib.Numerals.{add-one}
+use native.Mathlib.Nat.{eq-or-lt-of-le}
 use native.Mathlib.Omega.{arith}
 use mathlib.Core.Path.{_≡_, refl, sym, ap, _∙_}
 use mathlib.Core.List.{List, [], _∷_, _++_}
+use mathlib.Core.Logic.{⊎-elim}
 use mathlib.Core.Bool.{Bool, true, false, not, cond, _&&_, _||_, or-false, and-eq-true-iff, false≢true}
 use lib.ListN.{length, getD, length-append, List·getD-append}
 use lib.Seq.{getD-at}
 use lib.Dec.{eqb, ltb, leb}
 use borrow.Author.Tests.{eqb-true, eqb-false, ltb-true, ltb-false, not-true, eq-eqb, ne-eqb, lt-ltb, le-ltb, le-leb, lt-leb}
 use Rattle.model.specs.Search.{any, first, count}
-use Rattle.model.specs.Layout.{size, thread, place, sync}
+use Rattle.model.specs.Layout.{size, thread, sync}
 use Rattle.model.specs.Serial.{listed, next, due, ready, turn, serial}
 use Rattle.model.proofs.Search.{any-none, any-more, any-same, count-more, count-same, count-le, first-same}
-use Rattle.model.proofs.Serial.Counting.{First, first-is, first-upto}
+use Rattle.model.proofs.Serial.Searches.{First, first-is, first-upto}
 
-one-more : (a b : ℕ) → ltb a b || eqb b a ≡ ltb a (b + 1)
+pub one-more : (a b : ℕ) → ltb a b || eqb b a ≡ ltb a (b + 1)
 one-more a b = go (ltb a b) refl (eqb b a) refl
   where
     go : (t : Bool) → ltb a b ≡ t → (u : Bool) → eqb b a ≡ u → t || u ≡ ltb a (b + 1)
@@ -71,6 +73,19 @@ module _ (x : List ℕ) where
   length-serial zero = refl
   length-serial (suc k) = rw (length-append, length-serial k) (add-one k)
 
+  -- entry i is the position listed at step i
+  pub serial-at : (k i : ℕ) → i < k → getD (serial x k) i 0 ≡ turn x (serial x i)
+  unfolding serial
+  serial-at zero i h = absurd (let z : ⊥ = omega arith in z)
+  serial-at (suc k) i h =
+      ⊎-elim (λ (q : i ≡ k). rw q (getD-at (serial x k) (turn x (serial x k)) [] 0 k (length-serial k)))
+      (λ (q : i < k). List·getD-append (serial x k) (turn x (serial x k) ∷ []) 0 i (omega (arith, length-serial k)) ∙ serial-at k i q)
+      (eq-or-lt-of-le (let z : i ≤ k = omega arith in z))
+
+  pub due-from : (l : List ℕ) → 1 ≤ due x l
+  unfolding due
+  due-from l = omega arith
+
   -- at most every entry is a synchronization action
   pub due-upto : (l : List ℕ) → due x l ≤ length l + 1
   unfolding due
@@ -83,9 +98,6 @@ module _ (x : List ℕ) where
   next-is : (l : List ℕ) (t : ℕ) → First (size x) (left l t) (next x l t)
   unfolding next
   next-is l t = first-is (left l t) (size x)
-
-  pub next-within : (l : List ℕ) (t : ℕ) → next x l t ≤ size x
-  next-within l t = next-is l t .within
 
   -- t's next action is t's, and not listed
   next-left : (l : List ℕ) (t : ℕ) → next x l t < size x → (eqb (thread x (next x l t)) t ≡ true) × (not (listed l (next x l t)) ≡ true)
@@ -119,7 +131,7 @@ module _ (x : List ℕ) where
   abbrev pub Prefix : List ℕ → Type 0
   Prefix l = (a : ℕ) → a < size x → listed l a ≡ ltb a (next x l (thread x a))
 
-  pub prefix-none : Prefix []
+  prefix-none : Prefix []
   prefix-none a h = listed-none a ∙ sym (le-ltb a (next x [] (thread x a)) (next-upto [] a (listed-none a)))
 
   -- t's next action is listed now, and the one after it is t's first from the position after on
@@ -159,7 +171,7 @@ module _ (x : List ℕ) where
             sym (le-ltb a (next x (l ++ (next x l t ∷ [])) t) (rw e at (next-upto (l ++ (next x l t ∷ [])) a (moved a m e ∙ q))))
 
   -- Listing a thread's next action, or no position at all, keeps to this
-  pub prefix-more : (l : List ℕ) (b : ℕ) → Prefix l → (b < size x → b ≡ next x l (thread x b)) → Prefix (l ++ (b ∷ []))
+  prefix-more : (l : List ℕ) (b : ℕ) → Prefix l → (b < size x → b ≡ next x l (thread x b)) → Prefix (l ++ (b ∷ []))
   prefix-more l b prefix f a h = go (ltb b (size x)) refl (eqb (thread x b) (thread x a)) refl
     where
       Kept : Type 0

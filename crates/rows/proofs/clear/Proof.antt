@@ -9,8 +9,6 @@ use borrow.Author.Needs.{needs}
 use borrow.Author.Fill.{fill-none, fill-more}
 use Rattle.rows.proofs.clear.Statement.{statement}
 use Rattle.rows.proofs.clear.Tie as tie
-use Rattle.rows.proofs.clear.Reads as reads
-use Rattle.rows.proofs.clear.Lts as lts
 
 abbrev Inv-loop : tie.InvT-loop
 Inv-loop part₀ i₀ i-end part i =

@@ -11,9 +11,6 @@ use Rattle.rows.proofs.Closed.{closed-many, closed-other}
 use Rattle.rows.proofs.Rounds.{rounds-none, rounds-more, rounds-closed}
 use Rattle.rows.proofs.close.Statement.{statement}
 use Rattle.rows.proofs.close.Tie as tie
-use Rattle.rows.proofs.close.Reads as reads
-use Rattle.rows.proofs.close.Lts as lts
-use Rattle.rows.proofs.round.Reads as round-reads
 
 abbrev Inv-loop : tie.InvT-loop
 Inv-loop part₀ n k₀ part k = (k ≤ n) × Words part × Rounds rowWords part₀ part n k
@@ -33,9 +30,11 @@ loop-holds c = (search needs, λ i. c .before .before .slice-known .given i .fit
 loop-again : tie.Need-loop-again Inv-loop μ-loop
 loop-again c =
     let at = c .before .before .before .before .before in
-    let s = at .loop .inv .2 in
-    (omega arith, λ i. c .slice-known2 .given i .fits,
-    rounds-more _ _ _ (at .loop .part) _ (at .loop .k) s (omega arith) (c .before .before .round .ensures))
+    let s = at .loop .inv .2 in (
+      omega arith,
+      λ i. c .slice-known2 .given i .fits,
+      rounds-more _ _ _ (at .loop .part) _ (at .loop .k) s (omega arith) (c .before .before .round .ensures),
+    )
 
 returns-3 : tie.Need-returns-3 Inv-loop μ-loop
 returns-3 c =

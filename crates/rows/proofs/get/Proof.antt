@@ -4,8 +4,6 @@ use borrow.Author.Needs.{needs}
 use Rattle.model.proofs.Words.{bit-wide, bit-past, bit-in}
 use Rattle.rows.proofs.get.Statement.{statement}
 use Rattle.rows.proofs.get.Tie as tie
-use Rattle.rows.proofs.get.Reads as reads
-use Rattle.rows.proofs.get.Lts as lts
 
 returns : tie.Need-returns
 returns c = sym (bit-wide _ _ _ _ (c .if1 .taken))

@@ -8,8 +8,6 @@ use Rattle.rows.specs.Rounds.{Joined}
 use Rattle.rows.proofs.Rounds.{joined-none, joined-more}
 use Rattle.rows.proofs.or_row.Statement.{statement}
 use Rattle.rows.proofs.or_row.Tie as tie
-use Rattle.rows.proofs.or_row.Reads as reads
-use Rattle.rows.proofs.or_row.Lts as lts
 
 abbrev Inv-loop : tie.InvT-loop
 Inv-loop part₀ to from j₀ part j = (j ≤ rowWords) × Joined rowWords part₀ part to from j

@@ -9,10 +9,6 @@ use Rattle.rows.specs.Rounds.{Round}
 use Rattle.rows.proofs.Rounds.{round-none, round-skip, round-join}
 use Rattle.rows.proofs.round.Statement.{statement}
 use Rattle.rows.proofs.round.Tie as tie
-use Rattle.rows.proofs.round.Reads as reads
-use Rattle.rows.proofs.round.Lts as lts
-use Rattle.rows.proofs.get.Reads as get-reads
-use Rattle.rows.proofs.or_row.Reads as or-row-reads
 
 abbrev Inv-loop : tie.InvT-loop
 Inv-loop part₀ n k a₀ part a = (a ≤ n) × Round rowWords part₀ part k a
@@ -22,12 +18,13 @@ abbrev μ-loop : tie.MeasureT-loop
 
 loop-again : tie.Need-loop-again Inv-loop μ-loop
 loop-again c =
-    let at = c .before .before .before .before in
-    (omega arith,
-    ⊎-elim
-    (λ w. rw (w .5) (round-join _ _ _ (at .loop .part) (at .loop .a) (at .loop .inv .1) (sym (c .before .get .ensures) ∙ w .0 .taken) _ (w .2 .ensures)))
-    (λ w. rw (w .1) (round-skip _ _ _ (at .loop .part) (at .loop .a) (at .loop .inv .1) (sym (c .before .get .ensures) ∙ w .0 .left)))
-    (c .if1 .came))
+    let at = c .before .before .before .before in (
+      omega arith,
+      ⊎-elim
+          (λ w. rw (w .5) (round-join _ _ _ (at .loop .part) (at .loop .a) (at .loop .inv .1) (sym (c .before .get .ensures) ∙ w .0 .taken) _ (w .2 .ensures)))
+          (λ w. rw (w .1) (round-skip _ _ _ (at .loop .part) (at .loop .a) (at .loop .inv .1) (sym (c .before .get .ensures) ∙ w .0 .left)))
+          (c .if1 .came),
+    )
 
 returns : tie.Need-returns Inv-loop μ-loop
 returns c = let e : c .before .loop .a ≡ c .before .before .before .args .n = omega arith in rw e at (c .before .loop .inv .1)

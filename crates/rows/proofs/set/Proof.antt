@@ -1,7 +1,7 @@
 -- `rows::set` meets its contract: where the words have no bit for (a, b) they stay as they are.
 use Prim.Native.Nat.{_%_}
 use mathlib.Core.Path.{sym}
-use native.Mathlib.Nat.{one-mul, mod-lt}
+use native.Mathlib.Nat.{one-mul}
 use native.Mathlib.Omega.{arith}
 use borrow.Author.Needs.{needs}
 use lib.Dec.{lit<}
@@ -9,8 +9,6 @@ use lib.Pow.{shl-exact}
 use Rattle.rows.proofs.Marked.{marked-wide, marked-past, marked-in}
 use Rattle.rows.proofs.set.Statement.{statement}
 use Rattle.rows.proofs.set.Tie as tie
-use Rattle.rows.proofs.set.Reads as reads
-use Rattle.rows.proofs.set.Lts as lts
 
 returns : tie.Need-returns
 returns c = sym (marked-wide _ _ _ _ (c .if1 .taken))

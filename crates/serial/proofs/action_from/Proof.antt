@@ -3,14 +3,14 @@ use Prim.Native.Nat.{ℕ, _+_, _-_, _<_, _≤_}
 use native.Mathlib.Omega.{arith}
 use mathlib.Core.Path.{_≡_, sym, _∙_}
 use mathlib.Core.List.{List}
-use mathlib.Core.Bool.{Bool, true, false, _&&_, and-false}
+use mathlib.Core.Bool.{Bool, false, _&&_, and-false}
 use lib.Dec.{eqb, leb}
 use borrow.Author.Needs.{needs}
 use borrow.Author.Tests.{eq-eqb, ne-eqb, le-leb, lt-leb}
 use Rattle.model.specs.Search.{any}
 use Rattle.model.specs.Layout.{size, thread}
 use Rattle.model.proofs.Search.{any-pass, any-less, first-none, first-at}
-use Rattle.model.proofs.Serial.Counting.{any-never}
+use Rattle.model.proofs.Serial.Searches.{any-never}
 use Rattle.serial.specs.Cursors.{action-from}
 use Rattle.serial.proofs.action_from.Statement.{statement}
 use Rattle.serial.proofs.action_from.Tie as tie

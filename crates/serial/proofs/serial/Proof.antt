@@ -1,19 +1,21 @@
 -- `serial::serial` meets its contract. The loop's invariant: the first k entries are the order's first k positions, the others are as they were, and
 -- the code keeps what belongs to these k steps.
-use Prim.Native.Nat.{ℕ, _+_, _-_, _<_, _≤_}
+use Prim.Native.Nat.{ℕ, suc, _+_, _-_, _<_, _≤_}
+use native.Mathlib.Numerals.{add-one}
 use native.Mathlib.Nat.{add-zero}
 use native.Mathlib.Omega.{arith}
-use mathlib.Core.Path.{_≡_, refl, sym, ap, _∙_}
-use mathlib.Core.List.{List, _++_}
+use mathlib.Core.Path.{_≡_, refl, sym, _∙_}
+use mathlib.Core.List.{List, _++_, append-assoc}
 use mathlib.Core.Logic.{⊎-elim}
 use mathlib.Core.Bool.{Bool, true, false, cond}
-use lib.ListN.{length, drop, set}
+use lib.ListN.{length, getD, drop, set, length-append, length-drop}
+use lib.Seq.{drop-cons, set-at}
 use borrow.Author.Needs.{needs}
 use borrow.Author.Tests.{le-leb, lt-leb}
 use Rattle.model.specs.Layout.{size, sync}
 use Rattle.model.specs.Serial.{turn, serial}
-use Rattle.serial.specs.Cursors.{turn-at, moved}
-use Rattle.serial.proofs.Cursors.{Kept, kept-start, kept-due, kept-turn, kept-step, listed-more, listed-length}
+use Rattle.model.proofs.Serial.Steps.{serial-more, length-serial}
+use Rattle.serial.proofs.Cursors.{Kept, kept-start, kept-due, kept-turn, kept-step}
 use Rattle.serial.proofs.serial.Statement.{statement}
 use Rattle.serial.proofs.serial.Tie as tie
 
@@ -42,10 +44,12 @@ add-due c =
 
 -- the list keeps its length
 same : (x l₀ l : List ℕ) (k : ℕ) → l ≡ serial x k ++ drop k l₀ → k ≤ length l₀ → length l ≡ length l₀
-same x l₀ l k e h = ap length e ∙ listed-length x l₀ k h
+same x l₀ l k e h = rw (e, length-append, length-serial, length-drop) (omega arith)
 
+-- the list with one entry more
 one-more : (x l₀ l : List ℕ) (k a : ℕ) → l ≡ serial x k ++ drop k l₀ → a ≡ turn x (serial x k) → k < length l₀ → set l k a ≡ serial x (k + 1) ++ drop (k + 1) l₀
-one-more x l₀ l k a e q h = rw (e, q) (listed-more x l₀ k h)
+one-more x l₀ l k a e q h =
+    rw (e, drop-cons l₀ k 0, set-at (serial x k) (getD l₀ k 0) (drop (suc k) l₀) a k (length-serial x k), serial-more, ← q, append-assoc, add-one)
 
 slice-write-list : tie.Need-slice-write-list Inv-loop μ-loop
 slice-write-list c =
@@ -66,10 +70,11 @@ loop-again c =
     let t = c .before .before .before .turn in
     let x : List ℕ = s .x .now in
     let b : c .before .sync .result ≡ sync x (t .result) = c .before .sync .ensures in
-    let d : c .if2 .due ≡ l .due + cond (sync x (t .result)) 1 0 = ⊎-elim (λ w. w .1 ∙ counted (sync x (t .result)) (l .due) (sym b ∙ w .0 .taken)) (λ w. w .1 ∙ passed-over (sync x (t .result)) (l .due) (sym b ∙ w .0 .left)) (c .if2 .came) in
-    (omega arith
-    , one-more x (s .list .now) (l .list) (l .k) (t .result) (l .inv .1) (t .ensures .0 ∙ kept-turn x (l .k) (l .next) (l .due) (l .inv .2)) (omega arith)
-    , kept-step x (l .k) (l .next) (l .due) (l .inv .2) (t .result) (t .last .1 .0) (c .if2 .due) (t .ensures .0) (t .ensures .1) d)
+    let d : c .if2 .due ≡ l .due + cond (sync x (t .result)) 1 0 = ⊎-elim (λ w. w .1 ∙ counted (sync x (t .result)) (l .due) (sym b ∙ w .0 .taken)) (λ w. w .1 ∙ passed-over (sync x (t .result)) (l .due) (sym b ∙ w .0 .left)) (c .if2 .came) in (
+      omega arith,
+      one-more x (s .list .now) (l .list) (l .k) (t .result) (l .inv .1) (t .ensures .0 ∙ kept-turn x (l .k) (l .next) (l .due) (l .inv .2)) (omega arith),
+      kept-step x (l .k) (l .next) (l .due) (l .inv .2) (t .result) (t .last .1 .0) (c .if2 .due) (t .ensures .0) (t .ensures .1) d,
+    )
 
 same-length : tie.Need-same-length Inv-loop μ-loop
 same-length c =

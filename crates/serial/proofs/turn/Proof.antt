@@ -1,11 +1,10 @@
 -- `serial::turn` meets its contract.
-use Prim.Native.Nat.{ℕ, _+_, _<_}
+use Prim.Native.Nat.{_<_}
 use native.Mathlib.Omega.{arith}
-use mathlib.Core.Path.{_≡_, ap, _∙_}
+use mathlib.Core.Path.{ap, _∙_}
 use lib.ListN.{getD, set}
 use borrow.Author.Needs.{needs}
 use Rattle.model.specs.Layout.{size}
-use Rattle.serial.specs.Cursors.{action-from}
 use Rattle.serial.proofs.Cursors.{turn-stuck, moved-stuck, turn-ready, moved-ready, ready-within}
 use Rattle.serial.proofs.turn.Statement.{statement}
 use Rattle.serial.proofs.turn.Tie as tie
@@ -13,9 +12,10 @@ use Rattle.serial.proofs.turn.Tie as tie
 returns : tie.Need-returns
 returns c =
     let s = c .before .before .before .before .before .before .args in
-    let l = c .before .before .lowest in
-    (c .size .ensures ∙ turn-stuck (s .x .now) (s .next .now) (s .due) (l .result) (l .ensures) (omega arith)
-    , moved-stuck (s .x .now) (s .next .now) (s .due) (l .result) (l .ensures) (omega arith))
+    let l = c .before .before .lowest in (
+      c .size .ensures ∙ turn-stuck (s .x .now) (s .next .now) (s .due) (l .result) (l .ensures) (omega arith),
+      moved-stuck (s .x .now) (s .next .now) (s .due) (l .result) (l .ensures) (omega arith),
+    )
 
 add-action-from : tie.Need-add-action-from
 add-action-from c =
@@ -28,9 +28,10 @@ add-action-from c =
 returns-2 : tie.Need-returns-2
 returns-2 c =
     let s = c .before .before .before .before .before .before .before .args in
-    let l = c .before .before .before .lowest in
-    (turn-ready (s .x .now) (s .next .now) (s .due) (l .result) (l .ensures) (omega arith)
-    , ap (set (s .next .now) (l .result)) (c .action-from .ensures) ∙ moved-ready (s .x .now) (s .next .now) (s .due) (l .result) (l .ensures) (omega arith))
+    let l = c .before .before .before .lowest in (
+      turn-ready (s .x .now) (s .next .now) (s .due) (l .result) (l .ensures) (omega arith),
+      ap (set (s .next .now) (l .result)) (c .action-from .ensures) ∙ moved-ready (s .x .now) (s .next .now) (s .due) (l .result) (l .ensures) (omega arith),
+    )
 
 pub turn-spec : {M : Type 1} → statement M
 turn-spec =

@@ -1,42 +1,39 @@
+-- `justify::edges::between` meets its contract. The loop's invariant: no action before z stands between x and y.
+use Prim.Native.Nat.{_≤_, _-_}
+use native.Mathlib.Omega.{arith}
+use mathlib.Core.Path.{_≡_, sym}
+use mathlib.Core.Bool.{false}
+use borrow.Author.Needs.{needs}
+use Rattle.model.specs.Limits.{rowWords}
+use Rattle.model.specs.Search.{any}
+use Rattle.model.specs.WorkArea.{bit}
+use Rattle.model.proofs.Search.{any-none, any-pass, any-at}
+use Rattle.justify.specs.Edge.{through}
 use Rattle.justify.proofs.edges.between.Statement.{statement}
 use Rattle.justify.proofs.edges.between.Tie as tie
-use Rattle.justify.proofs.edges.between.Reads as reads
-use Rattle.justify.proofs.edges.between.Lts as lts
-use Rattle.justify.proofs.edges.through.Reads as through-reads
 
 abbrev Inv-loop : tie.InvT-loop
-Inv-loop part n x y z₀ z = ?
+Inv-loop part n x y z₀ z = (z ≤ n) × (any z (through (bit rowWords part) x y) ≡ false)
 
 abbrev μ-loop : tie.MeasureT-loop
-μ-loop part n x y z₀ z = ?
+μ-loop part n x y z₀ z = n - z
 
--- src/edges.rt:24:5
 loop-holds : tie.Need-loop-holds Inv-loop μ-loop
-loop-holds c = ?
+loop-holds c = (search needs, any-none _)
 
--- src/edges.rt:25:12
-through-requires : tie.Need-through-requires Inv-loop μ-loop
-through-requires c κs = ?
-
--- src/edges.rt:26:13
 returns : tie.Need-returns Inv-loop μ-loop
-returns c = ?
+returns c =
+    sym (any-at _ _ (c .before .before .before .loop .z) (search needs) (rw (c .before .through .ensures) at (c .if1 .taken)))
 
--- src/edges.rt:24:9
-add-z : tie.Need-add-z Inv-loop μ-loop
-add-z c = ?
-
--- src/edges.rt:24:5
-loop-less : tie.Need-loop-less Inv-loop μ-loop
-loop-less c = ?
-
--- src/edges.rt:24:5
 loop-again : tie.Need-loop-again Inv-loop μ-loop
-loop-again c = ?
+loop-again c =
+    (search needs,
+    any-pass _ _ (c .before .before .before .loop .inv .1) (rw (c .before .through .ensures) at (c .if1 .left)))
 
--- src/edges.rt:21:1
 returns-2 : tie.Need-returns-2 Inv-loop μ-loop
-returns-2 c = ?
+returns-2 c =
+    let e : c .before .loop .z ≡ c .before .before .before .args .n = omega arith in
+    rw (← e) (sym (c .before .loop .inv .1))
 
 pub between-spec : {M : Type 1} → statement M
 between-spec =
@@ -45,9 +42,9 @@ between-spec =
     Inv-loop
     μ-loop
     loop-holds
-    through-requires
+    (λ c κs. search needs)
     returns
-    add-z
-    loop-less
+    (λ c. search needs)
+    (λ c. search needs)
     loop-again
     returns-2)

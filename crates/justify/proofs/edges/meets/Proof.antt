@@ -1,26 +1,17 @@
+-- `justify::edges::meets` meets its contract.
 use borrow.Author.Needs.{needs}
+use borrow.Author.Tests.{eq-eqb, ne-eqb}
+use Rattle.justify.specs.Edge.{meets}
 use Rattle.justify.proofs.edges.meets.Statement.{statement}
 use Rattle.justify.proofs.edges.meets.Tie as tie
-use Rattle.justify.proofs.edges.meets.Reads as reads
-use Rattle.justify.proofs.edges.meets.Lts as lts
-use Rattle.fields.proofs.ident.Reads as ident-reads
-use Rattle.hb.proofs.sw.Reads as sw-reads
 
--- src/edges.rt:36:8
-ident-requires : tie.Need-ident-requires
-ident-requires c κs = search needs
-
--- src/edges.rt:36:27
-sw-requires : tie.Need-sw-requires
-sw-requires c κs = search needs
-
--- src/edges.rt:33:1
 returns : tie.Need-returns
-returns c = ?
+unfolding meets
+returns c = rw (← (c .before .before .ident .ensures), eq-eqb _ _ (c .before .if1 .taken)) (c .sw .ensures)
 
--- src/edges.rt:33:1
 returns-2 : tie.Need-returns-2
-returns-2 c = ?
+unfolding meets
+returns-2 c = rw (← (c .before .ident .ensures), ne-eqb _ _ (c .if1 .left))
 
 pub meets-spec : {M : Type 1} → statement M
-meets-spec = tie.close (tie.spec ident-requires sw-requires returns returns-2)
+meets-spec = tie.close (tie.spec (λ c κs. search needs) (λ c κs. search needs) returns returns-2)

@@ -1,47 +1,37 @@
+-- `justify::edges::met` meets its contract. The loop's invariant: a synchronizes with no action before b that has the identifier.
+use Prim.Native.Nat.{_≤_, _-_}
+use native.Mathlib.Omega.{arith}
+use mathlib.Core.Path.{_≡_, sym}
+use mathlib.Core.Bool.{false}
+use borrow.Author.Needs.{needs}
+use Rattle.model.specs.Search.{any}
+use Rattle.model.proofs.Search.{any-none, any-pass, any-at}
+use Rattle.justify.specs.Edge.{meets}
 use Rattle.justify.proofs.edges.met.Statement.{statement}
 use Rattle.justify.proofs.edges.met.Tie as tie
-use Rattle.justify.proofs.edges.met.Reads as reads
-use Rattle.justify.proofs.edges.met.Lts as lts
-use Rattle.fields.proofs.size.Reads as size-reads
-use Rattle.justify.proofs.edges.meets.Reads as meets-reads
 
 abbrev Inv-loop : tie.InvT-loop
-Inv-loop x d a n b₀ b = ?
+Inv-loop x d a n b₀ b = (b ≤ n) × (any b (meets x d a) ≡ false)
 
 abbrev μ-loop : tie.MeasureT-loop
-μ-loop x d a n b₀ b = ?
+μ-loop x d a n b₀ b = n - b
 
--- src/edges.rt:43:9
-size-requires : tie.Need-size-requires Inv-loop μ-loop
-size-requires c κs = ?
-
--- src/edges.rt:44:5
 loop-holds : tie.Need-loop-holds Inv-loop μ-loop
-loop-holds c = ?
+loop-holds c = (search needs, any-none _)
 
--- src/edges.rt:45:12
-meets-requires : tie.Need-meets-requires Inv-loop μ-loop
-meets-requires c κs = ?
-
--- src/edges.rt:46:13
 returns : tie.Need-returns Inv-loop μ-loop
-returns c = ?
+returns c =
+    sym (any-at _ _ (c .before .before .before .loop .b) (search needs) (rw (c .before .meets .ensures) at (c .if1 .taken)))
 
--- src/edges.rt:44:9
-add-b : tie.Need-add-b Inv-loop μ-loop
-add-b c = ?
-
--- src/edges.rt:44:5
-loop-less : tie.Need-loop-less Inv-loop μ-loop
-loop-less c = ?
-
--- src/edges.rt:44:5
 loop-again : tie.Need-loop-again Inv-loop μ-loop
-loop-again c = ?
+loop-again c =
+    (search needs,
+    any-pass _ _ (c .before .before .before .loop .inv .1) (rw (c .before .meets .ensures) at (c .if1 .left)))
 
--- src/edges.rt:40:1
 returns-2 : tie.Need-returns-2 Inv-loop μ-loop
-returns-2 c = ?
+returns-2 c =
+    let e : c .before .loop .b ≡ c .before .before .size .result = omega arith in
+    rw (← (c .before .before .size .ensures), ← e) (sym (c .before .loop .inv .1))
 
 pub met-spec : {M : Type 1} → statement M
 met-spec =
@@ -49,11 +39,11 @@ met-spec =
     (tie.spec
     Inv-loop
     μ-loop
-    size-requires
+    (λ c κs. search needs)
     loop-holds
-    meets-requires
+    (λ c κs. search needs)
     returns
-    add-b
-    loop-less
+    (λ c. search needs)
+    (λ c. search needs)
     loop-again
     returns-2)

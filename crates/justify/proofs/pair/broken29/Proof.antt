@@ -1,35 +1,23 @@
+-- `justify::pair::broken29` meets its contract.
+use mathlib.Core.Path.{_≡_}
 use borrow.Author.Needs.{needs}
+use borrow.Author.Tests.{eq-eqb, ne-eqb, le-leb, lt-leb}
 use Rattle.justify.proofs.pair.broken29.Statement.{statement}
 use Rattle.justify.proofs.pair.broken29.Tie as tie
-use Rattle.justify.proofs.pair.broken29.Reads as reads
-use Rattle.justify.proofs.pair.broken29.Lts as lts
-use Rattle.fields.proofs.kind.Reads as kind-reads
-use Rattle.rows.proofs.get.Reads as get-reads
 
--- src/pair.rt:74:8
-kind-requires : tie.Need-kind-requires
-kind-requires c κs = search needs
-
--- src/pair.rt:76:16
-get-requires : tie.Need-get-requires
-get-requires c κs = search needs
-
--- src/pair.rt:77:17
 returns : tie.Need-returns
-returns c = ?
+returns c =
+    rw (← (c .before .before .before .before .kind .ensures), eq-eqb _ _ (c .before .before .before .if1 .taken), lt-leb _ _ (c .before .before .if2 .taken), ← (c .before .get .ensures), c .if3 .taken)
 
--- src/pair.rt:71:1
 returns-2 : tie.Need-returns-2
-returns-2 c = ?
+returns-2 c =
+    rw (← (c .before .before .before .before .kind .ensures), eq-eqb _ _ (c .before .before .before .if1 .taken), lt-leb _ _ (c .before .before .if2 .taken), ← (c .before .get .ensures), c .if3 .left)
 
--- src/pair.rt:71:1
 returns-3 : tie.Need-returns-3
-returns-3 c = ?
+returns-3 c = rw (← (c .before .before .kind .ensures), eq-eqb _ _ (c .before .if1 .taken), le-leb _ _ (c .if2 .left))
 
--- src/pair.rt:71:1
 returns-4 : tie.Need-returns-4
-returns-4 c = ?
+returns-4 c = rw (← (c .before .kind .ensures), ne-eqb _ _ (c .if1 .left))
 
 pub broken29-spec : {M : Type 1} → statement M
-broken29-spec =
-    tie.close (tie.spec kind-requires get-requires returns returns-2 returns-3 returns-4)
+broken29-spec = tie.close (tie.spec (λ c κs. search needs) (λ c κs. search needs) returns returns-2 returns-3 returns-4)

@@ -1,7 +1,7 @@
 -- `justify::single::kept` meets its contract. The loop's invariant: no action of f before x is like a.
-use Prim.Native.Nat.{ℕ, _≤_, _-_}
+use Prim.Native.Nat.{_≤_, _-_}
 use native.Mathlib.Omega.{arith}
-use mathlib.Core.Path.{_≡_, sym, _∙_}
+use mathlib.Core.Path.{_≡_, sym}
 use mathlib.Core.Bool.{false}
 use borrow.Author.Needs.{needs}
 use Rattle.model.specs.Search.{any}
@@ -21,12 +21,12 @@ loop-holds c = (search needs, any-none _)
 
 returns : tie.Need-returns Inv-loop μ-loop
 returns c =
-    sym (any-at _ _ (c .before .before .before .loop .x) (search needs) (sym (c .before .alike .ensures) ∙ c .if1 .taken))
+    sym (any-at _ _ (c .before .before .before .loop .x) (search needs) (rw (c .before .alike .ensures) at (c .if1 .taken)))
 
 loop-again : tie.Need-loop-again Inv-loop μ-loop
 loop-again c =
     (search needs,
-    any-pass _ _ (c .before .before .before .loop .inv .1) (sym (c .before .alike .ensures) ∙ c .if1 .left))
+    any-pass _ _ (c .before .before .before .loop .inv .1) (rw (c .before .alike .ensures) at (c .if1 .left)))
 
 returns-2 : tie.Need-returns-2 Inv-loop μ-loop
 returns-2 c =

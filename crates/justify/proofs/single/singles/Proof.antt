@@ -1,7 +1,7 @@
 -- `justify::single::singles` meets its contract. The loop's invariant: no action before a breaks the rule.
 use Prim.Native.Nat.{_≤_, _-_}
 use native.Mathlib.Omega.{arith}
-use mathlib.Core.Path.{_≡_, sym, _∙_}
+use mathlib.Core.Path.{_≡_, sym}
 use mathlib.Core.Bool.{false}
 use borrow.Author.Needs.{needs}
 use Rattle.model.specs.Limits.{rowWords}
@@ -28,11 +28,11 @@ single-requires c κs = (c .before .before .before .before .before .pre .0, rw (
 returns : tie.Need-returns Inv-loop μ-loop
 returns c =
     let few : c .before .before .before .before .before .before .before .args .n ≤ none = omega arith in
-    sym (rule-at _ _ _ _ _ few (c .before .before .loop-test .taken) (c .before .before .before .loop .inv .1) (sym (c .before .single .ensures) ∙ c .if1 .taken))
+    sym (rule-at _ _ _ _ _ few (c .before .before .loop-test .taken) (c .before .before .before .loop .inv .1) (rw (c .before .single .ensures) at (c .if1 .taken)))
 
 loop-again : tie.Need-loop-again Inv-loop μ-loop
 loop-again c =
-    (search needs, any-pass _ _ (c .before .before .before .loop .inv .1) (sym (c .before .single .ensures) ∙ c .if1 .left))
+    (search needs, any-pass _ _ (c .before .before .before .loop .inv .1) (rw (c .before .single .ensures) at (c .if1 .left)))
 
 returns-2 : tie.Need-returns-2 Inv-loop μ-loop
 returns-2 c =

@@ -1,14 +1,13 @@
--- What the searches say of the positions below n: where the first is, that some position is or none is, and how many there are.
-use Prim.Native.Nat.{ℕ, zero, suc, _+_, _<_, _≤_}
+-- What the searches say of the positions below n: where the first at which p holds is, and whether there is one.
+use Prim.Native.Nat.{ℕ, zero, suc, _<_, _≤_}
 use native.Mathlib.Nat.{eq-or-lt-of-le}
 use native.Mathlib.Omega.{arith}
 use mathlib.Core.Path.{_≡_, refl, sym, _∙_}
 use mathlib.Core.Logic.{⊎-elim}
 use mathlib.Core.Bool.{Bool, true, false, cond, false≢true}
 use lib.Dec.{ltb}
-use borrow.Author.Tests.{ltb-true, ltb-false, lt-ltb, le-ltb}
-use Rattle.model.specs.Search.{any, first, count}
-use Rattle.model.proofs.Search.{any-none, any-pass, any-at, first-at, first-none}
+use borrow.Author.Tests.{ltb-true, ltb-false}
+use Rattle.model.specs.Search.{any, first}
 
 -- a is the least position below n at which p holds, or n where there is none
 pub record First (n : ℕ) (p : ℕ → Bool) (a : ℕ) : Type 0 where

@@ -1,0 +1,60 @@
+-- `justify::pair::row` meets its contract. The loop's invariant: x breaks the rule with no action before y.
+use Prim.Native.Nat.{_≤_, _-_}
+use native.Mathlib.Omega.{arith}
+use mathlib.Core.Path.{_≡_}
+use mathlib.Core.Bool.{false}
+use borrow.Author.Needs.{needs}
+use Rattle.model.specs.Limits.{rowWords}
+use Rattle.model.specs.Search.{any}
+use Rattle.model.specs.WorkArea.{bit}
+use Rattle.model.proofs.Search.{any-none, any-pass}
+use Rattle.justify.specs.Numbered.{paired}
+use Rattle.justify.proofs.Numbered.{first-none}
+use Rattle.justify.proofs.pair.row.Statement.{statement}
+use Rattle.justify.proofs.pair.row.Tie as tie
+
+abbrev Inv-loop : tie.InvT-loop
+Inv-loop number r e f e-part f-part twins stages ahead i n x y₀ y =
+    (y ≤ n) × (any y (paired number (bit rowWords e-part) (bit rowWords f-part) r e f i x) ≡ false)
+
+abbrev μ-loop : tie.MeasureT-loop
+μ-loop number r e f e-part f-part twins stages ahead i n x y₀ y = n - y
+
+loop-holds : tie.Need-loop-holds Inv-loop μ-loop
+loop-holds c = (search needs, any-none _)
+
+pair-requires : tie.Need-pair-requires Inv-loop μ-loop
+pair-requires c κs =
+    let pre = c .before .before .before .before .before .before .before .pre in
+    (pre .0, (pre .1 .0, (rw (← (pre .1 .1 .0)) (pre .1 .1 .1), rw (← (pre .1 .1 .0)) (c .loop-test .taken))))
+
+returns : tie.Need-returns Inv-loop μ-loop
+returns c =
+    record {
+      within = search needs;
+      none-before = c .before .before .before .loop .inv .1;
+      holds = λ l. rw (c .before .pair .ensures) at (c .if1 .taken)
+    }
+
+loop-again : tie.Need-loop-again Inv-loop μ-loop
+loop-again c =
+    (search needs, any-pass _ _ (c .before .before .before .loop .inv .1) (rw (c .before .pair .ensures) at (c .if1 .left)))
+
+returns-2 : tie.Need-returns-2 Inv-loop μ-loop
+returns-2 c =
+    let e : c .before .loop .y ≡ c .before .before .before .before .before .before .before .args .n = omega arith in
+    first-none _ _ (rw e at (c .before .loop .inv .1))
+
+pub row-spec : {M : Type 1} → statement M
+row-spec =
+    tie.close
+    (tie.spec
+    Inv-loop
+    μ-loop
+    loop-holds
+    pair-requires
+    returns
+    (λ c. search needs)
+    (λ c. search needs)
+    loop-again
+    returns-2)

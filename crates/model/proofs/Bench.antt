@@ -12,9 +12,9 @@ use Rattle.model.specs.Refused.{unmarked, out-of-range, cut, rule5, targ
 use Rattle.model.specs.Rules.{broken11, broken12, monitored, held, broken13, least, first-of, misstarted, misjoined, broken14, rival, seen-at, broken15, seen-value, broken16, latest, write-ident, broken17, seen-hb, broken18, ordered, consistent, well-formed, racing}
 use Rattle.model.specs.Serial.{listed, next, due, ready, turn, serial}
 use Rattle.model.specs.Justified.{C#, twin, broken21, just-one, before, broken24, broken25, broken26, new, broken27, sw#, sufficient, missing, broken28, broken29, committing}
-use Rattle.model.specs.Questions.{verdict-refusal, race-refusal, order-refusal, left, judged, verdict, verdict-words, race-of, race, race-words, order, order-words, order-list}
+use Rattle.model.specs.Questions.{verdict-refusal, race-refusal, order-refusal, left, judged, verdict, verdict-words, race-of, race, race-words, order-of, order, order-words, order-list}
 use Rattle.model.specs.Bench.{bench}
 
 pub cases-1-to-11 : bench ≡ true
-unfolding bench any first count found upTo rule rule₂ packed kindRow start section value po sw edge reach hb Relations.race bits list rows part laid filled unmarked out-of-range cut rule5 targeted committed-in fielded met sections rule6 rule7 refusal broken11 broken12 monitored held broken13 least first-of misstarted misjoined broken14 rival seen-at broken15 seen-value broken16 latest write-ident broken17 seen-hb broken18 ordered consistent well-formed racing listed next due ready turn serial C# twin broken21 just-one before broken24 broken25 broken26 new broken27 sw# sufficient missing broken28 broken29 committing verdict-refusal race-refusal order-refusal left judged verdict verdict-words race-of race race-words order order-words order-list
+unfolding bench any first count found upTo rule rule₂ packed kindRow start section value po sw edge reach hb Relations.race bits list rows part laid filled unmarked out-of-range cut rule5 targeted committed-in fielded met sections rule6 rule7 refusal broken11 broken12 monitored held broken13 least first-of misstarted misjoined broken14 rival seen-at broken15 seen-value broken16 latest write-ident broken17 seen-hb broken18 ordered consistent well-formed racing listed next due ready turn serial C# twin broken21 just-one before broken24 broken25 broken26 new broken27 sw# sufficient missing broken28 broken29 committing verdict-refusal race-refusal order-refusal left judged verdict verdict-words race-of race race-words order-of order order-words order-list
 cases-1-to-11 = refl

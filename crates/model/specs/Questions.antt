@@ -55,10 +55,11 @@ unfoldable pub race-words : List ℕ → List ℕ → List ℕ
 race-words r ws = left (race-refusal r (length ws)) r 1 ws
 
 -- Order
+unfoldable pub order-of : List ℕ → Answer
+order-of r = let x = section r 0 in well-formed (hb x) 0 x then racing (hb x) x
+
 unfoldable pub order : List ℕ → ℕ → ℕ → Answer
-order r lent room =
-    let x = section r 0 in
-    order-refusal r lent room then well-formed (hb x) 0 x then racing (hb x) x
+order r lent room = order-refusal r lent room then order-of r
 
 unfoldable pub order-words : List ℕ → List ℕ → ℕ → List ℕ
 order-words r ws room = left (order-refusal r (length ws) room) r 1 ws

@@ -49,17 +49,11 @@ module _ (p : ℕ → Bool) where
 
   -- some position below n, so the first is below n
   pub any-first : (n : ℕ) → any n p ≡ true → first n p < n
-  any-first n e = go (ltb (first n p) n) refl
-    where
-      go : (t : Bool) → ltb (first n p) n ≡ t → first n p < n
-      go true q = ltb-true (first n p) n q
-      go false q =
-          absurd (false≢true (sym (any-never n (λ b h. first-is n .before b (omega (arith, ltb-false (first n p) n q)))) ∙ e))
+  any-first n e =
+      let z : n ≤ first n p → ⊥ = λ h. false≢true (sym (any-never n (λ b k. first-is n .before b (omega arith))) ∙ e) in
+      omega arith
 
   -- where p holds at a, the first position is at most a
   pub first-upto : (n a : ℕ) → p a ≡ true → first n p ≤ a
-  first-upto n a e = go (ltb a (first n p)) refl
-    where
-      go : (t : Bool) → ltb a (first n p) ≡ t → first n p ≤ a
-      go true q = absurd (false≢true (sym (first-is n .before a (ltb-true a (first n p) q)) ∙ e))
-      go false q = ltb-false a (first n p) q
+  first-upto n a e =
+      let z : a < first n p → ⊥ = λ h. false≢true (sym (first-is n .before a h) ∙ e) in omega arith

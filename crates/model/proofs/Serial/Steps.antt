@@ -150,16 +150,15 @@ module _ (x : List ℕ) where
         same a m false e = refl
 
     next-past : next x l t < next x (l ++ (next x l t ∷ [])) t
-    next-past = go (ltb (next x l t) (next x (l ++ (next x l t ∷ [])) t)) refl
+    next-past = let z : c ≤ next x l t → ⊥ = listed-again in omega arith
       where
-        go : (u : Bool) → ltb (next x l t) (next x (l ++ (next x l t ∷ [])) t) ≡ u → next x l t < next x (l ++ (next x l t ∷ [])) t
-        go true e = ltb-true (next x l t) (next x (l ++ (next x l t ∷ [])) t) e
-        go false e =
-            let c : ℕ = next x (l ++ (next x l t ∷ [])) t in
-            let q : c ≤ next x l t = ltb-false (next x l t) c e in
+        c : ℕ
+        c = next x (l ++ (next x l t ∷ [])) t
+
+        listed-again : c ≤ next x l t → ⊥
+        listed-again q =
             let m : c < size x = omega arith in
-            let z : listed (l ++ (next x l t ∷ [])) c ≡ true = moved c m (next-thread (l ++ (next x l t ∷ [])) t m) ∙ lt-ltb c (next x l t + 1) (omega arith) in
-            absurd (false≢true (sym (next-unlisted (l ++ (next x l t ∷ [])) t m) ∙ z))
+            false≢true (sym (next-unlisted (l ++ (next x l t ∷ [])) t m) ∙ moved c m (next-thread (l ++ (next x l t ∷ [])) t m) ∙ lt-ltb c (next x l t + 1) (omega arith))
 
     prefix-moved : (a : ℕ) → a < size x → thread x a ≡ t → listed (l ++ (next x l t ∷ [])) a ≡ ltb a (next x (l ++ (next x l t ∷ [])) t)
     prefix-moved a m e = moved a m e ∙ go (ltb a (next x l t + 1)) refl

@@ -20,5 +20,5 @@ module _ {A : Type 0} (d : A) (f : ℕ → A) where
         entry = λ a m.
             ⊎-elim (λ (q : a ≡ n). rw (q, getD-set-same t n v d l) e)
             (λ (q : a < n). rw (getD-set-other t n a v d (λ z. omega arith)) (h .entry a q))
-            (eq-or-lt-of-le (let z : a ≤ n = omega arith in z))
+            (eq-or-lt-of-le (let z : a ≤ n = omega arith in z));
       }

@@ -1,12 +1,11 @@
 -- 28 by what is found once: which actions lead to one in C_i outside C_(i-1).
 use Prim.Native.Nat.{ℕ, _<_}
-use native.Mathlib.Omega.{arith}
-use mathlib.Core.Path.{_≡_, refl, sym, _∙_}
+use mathlib.Core.Path.{_≡_, refl, _∙_}
 use mathlib.Core.List.{List}
 use mathlib.Core.Bool.{Bool, true, false, not, _&&_}
 use lib.ListN.{getD}
 use Rattle.model.specs.Search.{any, none}
-use Rattle.model.specs.Layout.{section, size, ident}
+use Rattle.model.specs.Layout.{size, ident}
 use Rattle.model.specs.Relations.{po, sw}
 use Rattle.model.specs.Justified.{new, sufficient, missing, broken28}
 use Rattle.model.proofs.Search.{any-same}

@@ -4,4 +4,6 @@ pub mod Stage
 pub mod Edge
 pub mod Lead
 pub mod Signed
-pub mod Numbered
+pub mod Names
+pub mod Chain
+pub mod Section

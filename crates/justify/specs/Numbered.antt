@@ -1,16 +1,15 @@
 -- The rules by number. e is section 0 of r and f section i, g and h are happens-before of the one and of the other.
-use Prim.Native.Nat.{ℕ, _+_, _<_, _≤_}
+use Prim.Native.Nat.{ℕ, _<_, _≤_}
 use mathlib.Core.Path.{_≡_}
 use mathlib.Core.List.{List}
 use mathlib.Core.Bool.{Bool, true, false, cond, _&&_, _||_}
 use lib.Dec.{eqb, ltb, leb}
 use Rattle.model.specs.declared.Answer.{Answer}
-use Rattle.model.specs.Limits.{maxActions, rowWords}
+use Rattle.model.specs.Limits.{maxActions}
 use Rattle.model.specs.Search.{any}
-use Rattle.model.specs.Answers.{pass, rule, rule₂}
+use Rattle.model.specs.Answers.{rule, rule₂}
 use Rattle.model.specs.Layout.{section, size, ident, thread, kind, target}
-use Rattle.model.specs.WorkArea.{bit}
-use Rattle.model.specs.Justified.{just-one, before, broken21, broken24, broken25, broken26, broken27, broken28, broken29, committing}
+use Rattle.model.specs.Justified.{just-one, before, broken21, broken24, broken25, broken26, broken27, broken28, broken29}
 
 -- x of f has a's identifier, thread, kind and target
 unfoldable pub alike : List ℕ → List ℕ → ℕ → ℕ → Bool
@@ -51,9 +50,6 @@ pub record First (n : ℕ) (p : ℕ → Bool) (a : ℕ) : Type 0 where
   pub none-before : any a p ≡ false
   pub holds : a < n → p a ≡ true
 
--- 21 to 29 for one i, by the words of the parts 0 and i, where both sections are within the limit
-unfoldable pub judged : List ℕ → List ℕ → List ℕ → ℕ → Answer
-judged r u v i =
-    cond (leb (size (section r 0)) maxActions && leb (size (section r i)) maxActions)
-    (committing (bit rowWords u) (bit rowWords v) r i)
-    pass
+-- sections 0 and i are within the limit
+unfoldable pub within-limit : List ℕ → ℕ → Bool
+within-limit r i = leb (size (section r 0)) maxActions && leb (size (section r i)) maxActions

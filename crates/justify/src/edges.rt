@@ -1,6 +1,6 @@
 // What 28 asks of an edge: whether an action stands between its ends, and whether a section lacks it.
 ghost use mathlib.Core.Path.{_≡_};
-ghost use mathlib.Core.Bool.{not, _||_};
+ghost use mathlib.Core.Bool.{_||_};
 ghost use lib.Dec.{eqb, leb};
 ghost use Rattle.model.specs.Limits.{rowWords};
 ghost use Rattle.model.specs.Search.{any};
@@ -8,14 +8,20 @@ ghost use Rattle.model.specs.Layout.{section, size};
 ghost use Rattle.model.specs.WorkArea.{bit};
 ghost use Rattle.model.specs.Justified.{«sw#», missing};
 ghost use Rattle.justify.specs.Edge.{through, meets, joins, lacks};
-use fields::{ident, justifying, size};
+use fields::ident;
+use fields::justifying;
+use fields::size;
 use hb::sw;
 
 // Whether z stands between x and y in hb.
 fn through(part: &[u64], x: u16, y: u16, z: u16) -> bool
     ensures { λ r. ⌜ r ≡ through (bit rowWords (now (part .entry))) x y z ⌝ }
 {
-    if rows::get(part, x, z) { rows::get(part, z, y) } else { false }
+    if rows::get(part, x, z) {
+        rows::get(part, z, y)
+    } else {
+        false
+    }
 }
 
 // Whether one of n actions stands between x and y in hb.
@@ -54,7 +60,11 @@ fn met(x: &[u8], d: u16, a: u16) -> bool
 fn joins(x: &[u8], c: u16, d: u16, a: u16) -> bool
     ensures { λ r. ⌜ r ≡ joins (now (x .entry)) c d a ⌝ }
 {
-    if ident(x, a) == c { met(x, d, a) } else { false }
+    if ident(x, a) == c {
+        met(x, d, a)
+    } else {
+        false
+    }
 }
 
 // Whether actions with the identifiers c and d synchronize, first with second.

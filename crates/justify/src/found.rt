@@ -1,13 +1,16 @@
 // What is found once for E and E_i and kept in arrays, so that no rule searches for it at each pair of actions.
 ghost use mathlib.Core.Path.{_≡_};
-ghost use mathlib.Core.Bool.{Bool, false, _&&_};
+ghost use mathlib.Core.Bool.{false, _&&_};
 ghost use Prim.Native.Nat.{_≤_, _-_};
 ghost use Rattle.model.specs.Limits.{maxActions, rowWords};
 ghost use Rattle.model.specs.Layout.{size};
 ghost use Rattle.model.specs.WorkArea.{bit};
 ghost use Rattle.model.specs.Justified.{twin, «twin-of»};
 ghost use Rattle.justify.specs.Found.{Holds, lower, stage, «stage-of», fresh, leads};
-use fields::{commit, ident, size};
+use crate::NONE;
+use fields::commit;
+use fields::ident;
+use fields::size;
 
 // The largest count of a section's actions.
 pub(crate) const ROOM: usize = 128;
@@ -51,7 +54,7 @@ pub(crate) fn stage(e: &[u8], d: u16) -> u16
         return 1;
     }
     let n = size(e);
-    let mut s = 65535;
+    let mut s = NONE;
     for a in 0..n {
         s = lower(e, d, a, s);
     }
@@ -98,7 +101,11 @@ pub(crate) fn stages(e: &[u8], f: &[u8]) -> [u16; ROOM]
 fn leads_to(part: &[u64], s: u16, i: u8, y: u16, z: u16) -> bool
     ensures { λ r. ⌜ r ≡ (bit rowWords (now (part .entry)) y z && fresh s i) ⌝ }
 {
-    if rows::get(part, y, z) { fresh(s, i) } else { false }
+    if rows::get(part, y, z) {
+        fresh(s, i)
+    } else {
+        false
+    }
 }
 
 // Whether y hb some action in C_i outside C_(i-1), of n actions whose stages are t.

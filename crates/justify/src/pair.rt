@@ -1,6 +1,6 @@
 // The rules of two actions: 22 and 23 of two of E, 28 and 29 of two of E_i.
 ghost use mathlib.Core.Path.{_≡_};
-ghost use mathlib.Core.Bool.{Bool, not, _&&_};
+ghost use mathlib.Core.Bool.{not, _&&_};
 ghost use Prim.Native.Nat.{_<_};
 ghost use lib.Dec.{eqb, leb};
 ghost use Rattle.model.specs.Limits.{rowWords};
@@ -12,11 +12,17 @@ ghost use Rattle.model.specs.Justified.{«twin-of», before};
 ghost use Rattle.justify.specs.Found.{Found, Led};
 ghost use Rattle.justify.specs.Edge.{loose};
 ghost use Rattle.justify.specs.Numbered.{apart, paired, span, First};
-use crate::edges::{between, missing};
+use crate::PASS;
+use crate::edges::between;
+use crate::edges::missing;
 use crate::found::ROOM;
 use crate::single::committed;
-use fields::{ident, kind, place, size};
-use hb::{po, sw};
+use fields::ident;
+use fields::kind;
+use fields::place;
+use fields::size;
+use hb::po;
+use hb::sw;
 use model::Answer;
 
 // Whether a's place is below b's.
@@ -27,7 +33,18 @@ fn earlier(x: &[u8], a: u16, b: u16) -> bool
 }
 
 // 22 and 23. x and y are the twins of a and b.
-fn apart(number: u8, e: &[u8], f: &[u8], e_part: &[u64], f_part: &[u64], x: u16, y: u16, i: u8, a: u16, b: u16) -> bool
+fn apart(
+    number: u8,
+    e: &[u8],
+    f: &[u8],
+    e_part: &[u64],
+    f_part: &[u64],
+    x: u16,
+    y: u16,
+    i: u8,
+    a: u16,
+    b: u16,
+) -> bool
     requires { ⌜ (x ≡ twin-of (now e) (now f) a) × (y ≡ twin-of (now e) (now f) b) ⌝ }
     ensures { λ r. ⌜ r ≡ apart number (bit rowWords (now («e_part» .entry))) (bit rowWords (now («f_part» .entry))) (now (e .entry)) (now (f .entry)) i a b ⌝ }
 {
@@ -81,14 +98,38 @@ fn broken29(f: &[u8], part: &[u64], s: u16, t: u16, i: u8, x: u16, y: u16) -> bo
     false
 }
 
-fn pair(number: u8, r: &[u8], e: &[u8], f: &[u8], e_part: &[u64], f_part: &[u64], twins: &[u16; ROOM], stages: &[u16; ROOM], ahead: &[bool; ROOM], i: u8, x: u16, y: u16) -> bool
+fn pair(
+    number: u8,
+    r: &[u8],
+    e: &[u8],
+    f: &[u8],
+    e_part: &[u64],
+    f_part: &[u64],
+    twins: &[u16; ROOM],
+    stages: &[u16; ROOM],
+    ahead: &[bool; ROOM],
+    i: u8,
+    x: u16,
+    y: u16,
+) -> bool
     requires { ⌜ Found (now e) (now f) (now twins) (now stages) ⌝ }
     requires { ⌜ Led (now r) (now e) (now f) (bit rowWords (now «f_part»)) i (now stages) (now ahead) ⌝ }
     requires { ⌜ (x < span number (now e) (now f)) × (y < span number (now e) (now f)) ⌝ }
     ensures { λ b. ⌜ b ≡ paired number (bit rowWords (now («e_part» .entry))) (bit rowWords (now («f_part» .entry))) (now (r .entry)) (now (e .entry)) (now (f .entry)) i x y ⌝ }
 {
     if number < 26 {
-        return apart(number, e, f, e_part, f_part, twins[x as usize], twins[y as usize], i, x, y);
+        return apart(
+            number,
+            e,
+            f,
+            e_part,
+            f_part,
+            twins[x as usize],
+            twins[y as usize],
+            i,
+            x,
+            y,
+        );
     }
     if number == 28 {
         return broken28(r, f, f_part, ahead[y as usize], i, x, y);
@@ -97,14 +138,40 @@ fn pair(number: u8, r: &[u8], e: &[u8], f: &[u8], e_part: &[u64], f_part: &[u64]
 }
 
 // The first of n actions y that breaks the rule with x; n where none does.
-fn row(number: u8, r: &[u8], e: &[u8], f: &[u8], e_part: &[u64], f_part: &[u64], twins: &[u16; ROOM], stages: &[u16; ROOM], ahead: &[bool; ROOM], i: u8, n: u16, x: u16) -> u16
+fn row(
+    number: u8,
+    r: &[u8],
+    e: &[u8],
+    f: &[u8],
+    e_part: &[u64],
+    f_part: &[u64],
+    twins: &[u16; ROOM],
+    stages: &[u16; ROOM],
+    ahead: &[bool; ROOM],
+    i: u8,
+    n: u16,
+    x: u16,
+) -> u16
     requires { ⌜ Found (now e) (now f) (now twins) (now stages) ⌝ }
     requires { ⌜ Led (now r) (now e) (now f) (bit rowWords (now «f_part»)) i (now stages) (now ahead) ⌝ }
     requires { ⌜ (n ≡ span number (now e) (now f)) × (x < n) ⌝ }
     ensures { λ y. ⌜ First n (paired number (bit rowWords (now («e_part» .entry))) (bit rowWords (now («f_part» .entry))) (now (r .entry)) (now (e .entry)) (now (f .entry)) i x) y ⌝ }
 {
     for y in 0..n {
-        if pair(number, r, e, f, e_part, f_part, twins, stages, ahead, i, x, y) {
+        if pair(
+            number,
+            r,
+            e,
+            f,
+            e_part,
+            f_part,
+            twins,
+            stages,
+            ahead,
+            i,
+            x,
+            y,
+        ) {
             return y;
         }
     }
@@ -112,17 +179,47 @@ fn row(number: u8, r: &[u8], e: &[u8], f: &[u8], e_part: &[u64], f_part: &[u64],
 }
 
 // The first two of n actions that break the rule.
-pub(crate) fn pairs(number: u8, r: &[u8], e: &[u8], f: &[u8], e_part: &[u64], f_part: &[u64], twins: &[u16; ROOM], stages: &[u16; ROOM], ahead: &[bool; ROOM], i: u8, n: u16) -> Answer
+pub(crate) fn pairs(
+    number: u8,
+    r: &[u8],
+    e: &[u8],
+    f: &[u8],
+    e_part: &[u64],
+    f_part: &[u64],
+    twins: &[u16; ROOM],
+    stages: &[u16; ROOM],
+    ahead: &[bool; ROOM],
+    i: u8,
+    n: u16,
+) -> Answer
     requires { ⌜ Found (now e) (now f) (now twins) (now stages) ⌝ }
     requires { ⌜ Led (now r) (now e) (now f) (bit rowWords (now «f_part»)) i (now stages) (now ahead) ⌝ }
     requires { ⌜ n ≡ span number (now e) (now f) ⌝ }
     ensures { λ q. ⌜ q ≡ rule₂ number i n (paired number (bit rowWords (now («e_part» .entry))) (bit rowWords (now («f_part» .entry))) (now (r .entry)) (now (e .entry)) (now (f .entry)) i) ⌝ }
 {
     for x in 0..n {
-        let y = row(number, r, e, f, e_part, f_part, twins, stages, ahead, i, n, x);
+        let y = row(
+            number,
+            r,
+            e,
+            f,
+            e_part,
+            f_part,
+            twins,
+            stages,
+            ahead,
+            i,
+            n,
+            x,
+        );
         if y < n {
-            return Answer { n: number, s: i, a: x, b: y };
+            return Answer {
+                n: number,
+                s: i,
+                a: x,
+                b: y,
+            };
         }
     }
-    Answer { n: 0, s: 0, a: 65535, b: 65535 }
+    PASS
 }

@@ -1,6 +1,6 @@
 // The rules of one action: 21, 24 and 25 of one of E, 26 and 27 of one of E_i.
 ghost use mathlib.Core.Path.{_≡_};
-ghost use mathlib.Core.Bool.{Bool, not, _&&_};
+ghost use mathlib.Core.Bool.{not, _&&_};
 ghost use Prim.Native.Nat.{_-_, _<_};
 ghost use lib.Dec.{leb};
 ghost use Rattle.model.specs.Limits.{rowWords};
@@ -12,9 +12,23 @@ ghost use Rattle.model.specs.Rules.{«seen-hb»};
 ghost use Rattle.model.specs.Justified.{C, «twin-of», broken21, broken24, broken25, broken27};
 ghost use Rattle.justify.specs.Found.{«stage-of», Found};
 ghost use Rattle.justify.specs.Numbered.{alike, single, span};
-use crate::found::{ROOM, fresh, previous, stage, twin};
-use fields::{commit, ident, kind, seen, size, target, thread, value};
-use model::{Answer, row_of};
+use crate::NONE;
+use crate::PASS;
+use crate::found::ROOM;
+use crate::found::fresh;
+use crate::found::previous;
+use crate::found::stage;
+use crate::found::twin;
+use fields::commit;
+use fields::ident;
+use fields::kind;
+use fields::seen;
+use fields::size;
+use fields::target;
+use fields::thread;
+use fields::value;
+use model::Answer;
+use model::row_of;
 
 fn read(x: &[u8], a: u16) -> bool
     ensures { λ r. ⌜ r ≡ read (now (x .entry)) a ⌝ }
@@ -91,7 +105,8 @@ fn broken25(e: &[u8], f: &[u8], x: u16, i: u8, a: u16) -> bool
     requires { ⌜ x ≡ twin-of (now e) (now f) a ⌝ }
     ensures { λ r. ⌜ r ≡ broken25 (now (e .entry)) (now (f .entry)) i a ⌝ }
 {
-    if committed(e, previous(i), a) {
+    let j = previous(i);
+    if committed(e, j, a) {
         if read(e, a) {
             return seen(e, a) != seen(f, x);
         }
@@ -140,7 +155,16 @@ fn broken27(e: &[u8], f: &[u8], s: u16, i: u8, x: u16) -> bool
     false
 }
 
-fn single(number: u8, e: &[u8], f: &[u8], part: &[u64], twins: &[u16; ROOM], stages: &[u16; ROOM], i: u8, a: u16) -> bool
+fn single(
+    number: u8,
+    e: &[u8],
+    f: &[u8],
+    part: &[u64],
+    twins: &[u16; ROOM],
+    stages: &[u16; ROOM],
+    i: u8,
+    a: u16,
+) -> bool
     requires { ⌜ (Found (now e) (now f) (now twins) (now stages)) × (a < span number (now e) (now f)) ⌝ }
     ensures { λ r. ⌜ r ≡ single number (bit rowWords (now (part .entry))) (now (e .entry)) (now (f .entry)) i a ⌝ }
 {
@@ -159,14 +183,28 @@ fn single(number: u8, e: &[u8], f: &[u8], part: &[u64], twins: &[u16; ROOM], sta
 }
 
 // The first of n actions that breaks the rule.
-pub(crate) fn singles(number: u8, e: &[u8], f: &[u8], part: &[u64], twins: &[u16; ROOM], stages: &[u16; ROOM], i: u8, n: u16) -> Answer
+pub(crate) fn singles(
+    number: u8,
+    e: &[u8],
+    f: &[u8],
+    part: &[u64],
+    twins: &[u16; ROOM],
+    stages: &[u16; ROOM],
+    i: u8,
+    n: u16,
+) -> Answer
     requires { ⌜ (Found (now e) (now f) (now twins) (now stages)) × (n ≡ span number (now e) (now f)) ⌝ }
     ensures { λ q. ⌜ q ≡ rule number i n (single number (bit rowWords (now (part .entry))) (now (e .entry)) (now (f .entry)) i) ⌝ }
 {
     for a in 0..n {
         if single(number, e, f, part, twins, stages, i, a) {
-            return Answer { n: number, s: i, a, b: 65535 };
+            return Answer {
+                n: number,
+                s: i,
+                a,
+                b: NONE,
+            };
         }
     }
-    Answer { n: 0, s: 0, a: 65535, b: 65535 }
+    PASS
 }

@@ -9,7 +9,7 @@ ghost use Rattle.model.specs.Search.{any, none};
 ghost use Rattle.model.specs.Answers.{answer, pass, rule};
 ghost use Rattle.model.specs.Layout.{two, past, size, K, variables, volatile};
 ghost use Rattle.model.specs.Refused.{unmarked, out-of-range, rule5, targeted, committed-in, fielded, met, sections, refusal};
-ghost use Rattle.record.specs.Sections.{bounded, stray, cut-at, broken};
+ghost use Rattle.record.specs.Sections.{bounded, stray, cut-at, carried, broken};
 
 // No position.
 const NONE: u16 = 65535;
@@ -213,6 +213,25 @@ fn committed_in(last: u8, s: u8, c: u8) -> bool
     c >= 1
 }
 
+// What action a of a kind's row k carries: the write seen in a read alone, the value in a read or a write.
+fn carried(x: &[u8], k: Kind, a: u16) -> bool
+    ensures { λ b. ⌜ b ≡ carried (now (x .entry)) k a ⌝ }
+{
+    if fields::unused(x, a) != 0 {
+        return false;
+    }
+    if k.read {
+        return true;
+    }
+    if fields::seen(x, a) != 0 {
+        return false;
+    }
+    if k.write {
+        return true;
+    }
+    fields::value(x, a) == 0
+}
+
 // Action a of section s, whose bytes are x, is as the two tables say.
 fn fielded(r: &[u8], s: u8, x: &[u8], a: u16) -> bool
     ensures { λ b. ⌜ b ≡ fielded (now (r .entry)) s (now (x .entry)) a ⌝ }
@@ -234,19 +253,7 @@ fn fielded(r: &[u8], s: u8, x: &[u8], a: u16) -> bool
     if k.sync != placed {
         return false;
     }
-    if fields::unused(x, a) != 0 {
-        return false;
-    }
-    if k.read {
-        return true;
-    }
-    if fields::seen(x, a) != 0 {
-        return false;
-    }
-    if k.write {
-        return true;
-    }
-    fields::value(x, a) == 0
+    carried(x, k, a)
 }
 
 // An identifier already met in the section.

@@ -1,5 +1,4 @@
 -- `justify::edges::later` meets its contract.
-use borrow.Author.Needs.{needs}
 use borrow.Author.Tests.{le-leb, lt-leb}
 use Rattle.justify.proofs.edges.later.Statement.{statement}
 use Rattle.justify.proofs.edges.later.Tie as tie

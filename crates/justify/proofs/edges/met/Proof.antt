@@ -24,9 +24,10 @@ returns c =
     sym (any-at _ _ (c .before .before .before .loop .b) (search needs) (rw (c .before .meets .ensures) at (c .if1 .taken)))
 
 loop-again : tie.Need-loop-again Inv-loop μ-loop
-loop-again c =
-    (search needs,
-    any-pass _ _ (c .before .before .before .loop .inv .1) (rw (c .before .meets .ensures) at (c .if1 .left)))
+loop-again c = (
+  search needs,
+  any-pass _ _ (c .before .before .before .loop .inv .1) (rw (c .before .meets .ensures) at (c .if1 .left)),
+)
 
 returns-2 : tie.Need-returns-2 Inv-loop μ-loop
 returns-2 c =

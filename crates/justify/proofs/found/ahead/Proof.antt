@@ -23,10 +23,11 @@ loop-holds : tie.Need-loop-holds Inv-loop μ-loop
 loop-holds c = (search needs, refl, holds-none _ _ _)
 
 loop-again : tie.Need-loop-again Inv-loop μ-loop
-loop-again c =
-    (search needs,
-    simp length-set (c .before .before .loop .inv .1),
-    holds-more _ _ _ _ _ (omega arith) (c .before .before .loop .inv .2) (c .leads .ensures))
+loop-again c = (
+  search needs,
+  simp length-set (c .before .before .loop .inv .1),
+  holds-more _ _ _ _ _ (omega arith) (c .before .before .loop .inv .2) (c .leads .ensures),
+)
 
 returns : tie.Need-returns Inv-loop μ-loop
 returns c = let e : c .before .loop .y ≡ c .before .before .before .args .n = omega arith in rw e at (c .before .loop .inv .2)

@@ -1,5 +1,5 @@
 -- `justify::found::leads` meets its contract. The loop's invariant: y leads to no action before z.
-use Prim.Native.Nat.{ℕ, _≤_, _-_}
+use Prim.Native.Nat.{_≤_, _-_}
 use native.Mathlib.Omega.{arith}
 use mathlib.Core.Path.{_≡_, sym, _∙_}
 use mathlib.Core.Bool.{false}
@@ -27,9 +27,10 @@ returns c = sym (any-at _ _ (c .before .before .before .before .loop .z) (search
 
 loop-again : tie.Need-loop-again Inv-loop μ-loop
 unfolding leads
-loop-again c =
-    (search needs,
-    any-pass _ _ (c .before .before .before .before .loop .inv .1) (sym (c .before .leads-to .ensures) ∙ c .if1 .left))
+loop-again c = (
+  search needs,
+  any-pass _ _ (c .before .before .before .before .loop .inv .1) (sym (c .before .leads-to .ensures) ∙ c .if1 .left),
+)
 
 returns-2 : tie.Need-returns-2 Inv-loop μ-loop
 returns-2 c =

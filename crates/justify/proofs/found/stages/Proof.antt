@@ -1,11 +1,10 @@
 -- `justify::found::stages` meets its contract. The loop's invariant: the entries before x are found.
-use Prim.Native.Nat.{ℕ, _≤_, _-_}
+use Prim.Native.Nat.{_≤_, _-_}
 use native.Mathlib.Omega.{arith}
-use mathlib.Core.Path.{_≡_, refl, ap, _∙_}
+use mathlib.Core.Path.{_≡_, refl}
 use lib.ListN.{length, length-set}
 use borrow.Author.Needs.{needs}
 use Rattle.model.specs.Limits.{maxActions}
-
 use Rattle.justify.specs.Found.{Holds, stage-of}
 use Rattle.justify.proofs.Holds.{holds-none, holds-more}
 use Rattle.justify.proofs.found.stages.Statement.{statement}
@@ -21,8 +20,11 @@ loop-holds : tie.Need-loop-holds Inv-loop μ-loop
 loop-holds c = (search needs, refl, holds-none _ _ _)
 
 loop-again : tie.Need-loop-again Inv-loop μ-loop
-loop-again c = (search needs, simp length-set (c .before .before .before .loop .inv .1),
-    holds-more _ _ _ _ _ (omega arith) (c .before .before .before .loop .inv .2) (cc))
+loop-again c = (
+  search needs,
+  simp length-set (c .before .before .before .loop .inv .1),
+  holds-more _ _ _ _ _ (omega arith) (c .before .before .before .loop .inv .2) (cc),
+)
 
 returns : tie.Need-returns Inv-loop μ-loop
 returns c =

@@ -1,12 +1,12 @@
 -- `justify::found::twin` meets its contract. The loop's invariant: no action before a has the identifier.
-use Prim.Native.Nat.{ℕ, _≤_, _-_}
+use Prim.Native.Nat.{_≤_, _-_}
 use native.Mathlib.Omega.{arith}
 use mathlib.Core.Path.{_≡_, sym}
 use mathlib.Core.Bool.{false}
 use lib.Dec.{eqb}
 use borrow.Author.Needs.{needs}
 use borrow.Author.Tests.{eq-eqb, ne-eqb}
-use Rattle.model.specs.Search.{any, first}
+use Rattle.model.specs.Search.{any}
 use Rattle.model.specs.Layout.{ident}
 use Rattle.model.specs.Justified.{twin}
 use Rattle.model.proofs.Search.{any-none, any-pass, first-none, first-at}
@@ -30,8 +30,11 @@ returns c =
     (rw (← (c .before .ident .ensures)) (eq-eqb _ _ (c .if1 .taken)))))
 
 loop-again : tie.Need-loop-again Inv-loop μ-loop
-loop-again c = (search needs, any-pass _ _ (c .before .before .before .loop .inv .1)
-    (rw (← (c .before .ident .ensures)) (ne-eqb _ _ (c .if1 .left))))
+loop-again c = (
+  search needs,
+  any-pass _ _ (c .before .before .before .loop .inv .1)
+      (rw (← (c .before .ident .ensures)) (ne-eqb _ _ (c .if1 .left))),
+)
 
 returns-2 : tie.Need-returns-2 Inv-loop μ-loop
 unfolding twin

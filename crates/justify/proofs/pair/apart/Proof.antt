@@ -9,14 +9,32 @@ use Rattle.justify.proofs.pair.apart.Tie as tie
 returns : tie.Need-returns
 unfolding apart just-one
 returns c =
-    rw (← (c .before .before .before .before .before .before .committed .ensures), c .before .before .before .before .before .if1 .taken, ← (c .before .before .before .before .committed2 .ensures), c .before .before .before .if2 .taken, eq-eqb _ _ (c .before .before .if3 .taken),
-    c .before .get .ensures, c .get2 .ensures, c .before .before .before .before .before .before .before .before .before .before .before .pre .0, c .before .before .before .before .before .before .before .before .before .before .before .pre .1)
+    rw (
+      ← (c .before .before .before .before .before .before .committed .ensures),
+      c .before .before .before .before .before .if1 .taken,
+      ← (c .before .before .before .before .committed2 .ensures),
+      c .before .before .before .if2 .taken,
+      eq-eqb _ _ (c .before .before .if3 .taken),
+      c .before .get .ensures,
+      c .get2 .ensures,
+      c .before .before .before .before .before .before .before .before .before .before .before .pre .0,
+      c .before .before .before .before .before .before .before .before .before .before .before .pre .1,
+    )
 
 returns-2 : tie.Need-returns-2
 unfolding apart just-one
 returns-2 c =
-    rw (← (c .before .before .before .before .before .before .committed .ensures), c .before .before .before .before .before .if1 .taken, ← (c .before .before .before .before .committed2 .ensures), c .before .before .before .if2 .taken, ne-eqb _ _ (c .before .before .if3 .left),
-    c .before .earlier .ensures, c .earlier2 .ensures, c .before .before .before .before .before .before .before .before .before .before .before .pre .0, c .before .before .before .before .before .before .before .before .before .before .before .pre .1)
+    rw (
+      ← (c .before .before .before .before .before .before .committed .ensures),
+      c .before .before .before .before .before .if1 .taken,
+      ← (c .before .before .before .before .committed2 .ensures),
+      c .before .before .before .if2 .taken,
+      ne-eqb _ _ (c .before .before .if3 .left),
+      c .before .earlier .ensures,
+      c .earlier2 .ensures,
+      c .before .before .before .before .before .before .before .before .before .before .before .pre .0,
+      c .before .before .before .before .before .before .before .before .before .before .before .pre .1,
+    )
 
 returns-3 : tie.Need-returns-3
 unfolding apart just-one

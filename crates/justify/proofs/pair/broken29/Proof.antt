@@ -1,5 +1,4 @@
 -- `justify::pair::broken29` meets its contract.
-use mathlib.Core.Path.{_≡_}
 use borrow.Author.Needs.{needs}
 use borrow.Author.Tests.{eq-eqb, ne-eqb, le-leb, lt-leb}
 use Rattle.justify.proofs.pair.broken29.Statement.{statement}

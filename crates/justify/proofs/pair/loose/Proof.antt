@@ -16,8 +16,15 @@ returns-2 c =
 returns-3 : tie.Need-returns-3
 unfolding loose
 returns-3 c =
-    rw (← (c .before .before .before .before .before .before .before .po .ensures), c .before .before .before .before .before .before .if1 .left, ← (c .before .before .before .before .before .size .ensures), ← (c .before .before .before .before .between .ensures), c .before .before .before .if2 .left,
-    ← (c .before .before .ident .ensures), ← (c .before .ident2 .ensures))
+    rw (
+      ← (c .before .before .before .before .before .before .before .po .ensures),
+      c .before .before .before .before .before .before .if1 .left,
+      ← (c .before .before .before .before .before .size .ensures),
+      ← (c .before .before .before .before .between .ensures),
+      c .before .before .before .if2 .left,
+      ← (c .before .before .ident .ensures),
+      ← (c .before .ident2 .ensures),
+    )
     (c .missing .ensures)
 
 pub loose-spec : {M : Type 1} → statement M

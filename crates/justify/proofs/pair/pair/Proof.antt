@@ -7,7 +7,7 @@ use borrow.Author.Tests.{lt-ltb, le-ltb, ne-eqb}
 use Rattle.model.specs.Search.{none}
 use Rattle.model.specs.Layout.{size}
 use Rattle.justify.specs.Numbered.{paired}
-use Rattle.justify.proofs.Numbered.{span-e, span-f}
+use Rattle.justify.proofs.Names.{span-e, span-f}
 use Rattle.justify.proofs.Stage.{by-stage29}
 use Rattle.justify.proofs.Lead.{by-lead28}
 use Rattle.justify.proofs.pair.pair.Statement.{statement}
@@ -55,8 +55,13 @@ unfolding paired
 returns-3 c =
     let l : c .before .before .before .before .before .before .before .before .before .before .args .i < none = omega arith in
     let held = c .before .before .before .before .before .before .before .before .before .before .pre .0 .stages-held in
-    rw (le-ltb _ _ (c .before .before .before .before .if1 .left), ne-eqb _ _ (c .before .before .before .if2 .left), by-stage29 _ _ _ l _ _ _,
-    ← (held .entry _ (in-f (c .before .before .before .before) .0)), ← (held .entry _ (in-f (c .before .before .before .before) .1)))
+    rw (
+      le-ltb _ _ (c .before .before .before .before .if1 .left),
+      ne-eqb _ _ (c .before .before .before .if2 .left),
+      by-stage29 _ _ _ l _ _ _,
+      ← (held .entry _ (in-f (c .before .before .before .before) .0)),
+      ← (held .entry _ (in-f (c .before .before .before .before) .1)),
+    )
     (c .broken29 .ensures)
 
 pub pair-spec : {M : Type 1} → statement M

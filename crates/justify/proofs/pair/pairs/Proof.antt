@@ -10,7 +10,7 @@ use Rattle.model.specs.WorkArea.{bit}
 use Rattle.model.proofs.Search.{any-none, any-pass}
 use Rattle.model.proofs.Answers.{rule₂-none, rule₂-at}
 use Rattle.justify.specs.Numbered.{paired}
-use Rattle.justify.proofs.Numbered.{none-holds}
+use Rattle.justify.proofs.Names.{none-holds}
 use Rattle.justify.proofs.pair.pairs.Statement.{statement}
 use Rattle.justify.proofs.pair.pairs.Tie as tie
 

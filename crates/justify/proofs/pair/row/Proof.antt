@@ -9,7 +9,7 @@ use Rattle.model.specs.Search.{any}
 use Rattle.model.specs.WorkArea.{bit}
 use Rattle.model.proofs.Search.{any-none, any-pass}
 use Rattle.justify.specs.Numbered.{paired}
-use Rattle.justify.proofs.Numbered.{first-none}
+use Rattle.justify.proofs.Names.{first-none}
 use Rattle.justify.proofs.pair.row.Statement.{statement}
 use Rattle.justify.proofs.pair.row.Tie as tie
 
@@ -33,7 +33,7 @@ returns c =
     record {
       within = search needs;
       none-before = c .before .before .before .loop .inv .1;
-      holds = λ l. rw (c .before .pair .ensures) at (c .if1 .taken)
+      holds = λ l. rw (c .before .pair .ensures) at (c .if1 .taken);
     }
 
 loop-again : tie.Need-loop-again Inv-loop μ-loop

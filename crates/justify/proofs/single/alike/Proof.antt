@@ -12,23 +12,46 @@ returns c = rw (← (c .before .before .ident .ensures), ← (c .before .ident2 
 returns-2 : tie.Need-returns-2
 unfolding alike
 returns-2 c =
-    rw (← (c .before .before .before .before .before .ident .ensures), ← (c .before .before .before .before .ident2 .ensures), eq-eqb _ _ (c .before .before .before .if1 .left),
-    ← (c .before .before .thread .ensures), ← (c .before .thread2 .ensures), ne-eqb _ _ (c .if2 .taken))
+    rw (
+      ← (c .before .before .before .before .before .ident .ensures),
+      ← (c .before .before .before .before .ident2 .ensures),
+      eq-eqb _ _ (c .before .before .before .if1 .left),
+      ← (c .before .before .thread .ensures),
+      ← (c .before .thread2 .ensures),
+      ne-eqb _ _ (c .if2 .taken),
+    )
 
 returns-3 : tie.Need-returns-3
 unfolding alike
 returns-3 c =
-    rw (← (c .before .before .before .before .before .before .before .before .ident .ensures), ← (c .before .before .before .before .before .before .before .ident2 .ensures), eq-eqb _ _ (c .before .before .before .before .before .before .if1 .left),
-    ← (c .before .before .before .before .before .thread .ensures), ← (c .before .before .before .before .thread2 .ensures), eq-eqb _ _ (c .before .before .before .if2 .left),
-    ← (c .before .before .kind .ensures), ← (c .before .kind2 .ensures), ne-eqb _ _ (c .if3 .taken))
+    rw (
+      ← (c .before .before .before .before .before .before .before .before .ident .ensures),
+      ← (c .before .before .before .before .before .before .before .ident2 .ensures),
+      eq-eqb _ _ (c .before .before .before .before .before .before .if1 .left),
+      ← (c .before .before .before .before .before .thread .ensures),
+      ← (c .before .before .before .before .thread2 .ensures),
+      eq-eqb _ _ (c .before .before .before .if2 .left),
+      ← (c .before .before .kind .ensures),
+      ← (c .before .kind2 .ensures),
+      ne-eqb _ _ (c .if3 .taken),
+    )
 
 returns-4 : tie.Need-returns-4
 unfolding alike
 returns-4 c =
-    rw (← (c .before .before .before .before .before .before .before .before .before .before .ident .ensures), ← (c .before .before .before .before .before .before .before .before .before .ident2 .ensures), eq-eqb _ _ (c .before .before .before .before .before .before .before .before .if1 .left),
-    ← (c .before .before .before .before .before .before .before .thread .ensures), ← (c .before .before .before .before .before .before .thread2 .ensures), eq-eqb _ _ (c .before .before .before .before .before .if2 .left),
-    ← (c .before .before .before .before .kind .ensures), ← (c .before .before .before .kind2 .ensures), eq-eqb _ _ (c .before .before .if3 .left),
-    ← (c .before .target .ensures), ← (c .target2 .ensures))
+    rw (
+      ← (c .before .before .before .before .before .before .before .before .before .before .ident .ensures),
+      ← (c .before .before .before .before .before .before .before .before .before .ident2 .ensures),
+      eq-eqb _ _ (c .before .before .before .before .before .before .before .before .if1 .left),
+      ← (c .before .before .before .before .before .before .before .thread .ensures),
+      ← (c .before .before .before .before .before .before .thread2 .ensures),
+      eq-eqb _ _ (c .before .before .before .before .before .if2 .left),
+      ← (c .before .before .before .before .kind .ensures),
+      ← (c .before .before .before .kind2 .ensures),
+      eq-eqb _ _ (c .before .before .if3 .left),
+      ← (c .before .target .ensures),
+      ← (c .target2 .ensures),
+    )
 
 pub alike-spec : {M : Type 1} → statement M
 alike-spec =

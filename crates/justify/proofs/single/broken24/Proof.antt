@@ -8,10 +8,16 @@ use Rattle.justify.proofs.single.broken24.Tie as tie
 returns : tie.Need-returns
 unfolding broken24
 returns c =
-    rw (← (c .before .before .before .before .before .committed .ensures), c .before .before .before .before .if1 .taken,
-    ← (c .before .before .before .write .ensures), c .before .before .if2 .taken,
-    same-bits (c .before .value .result) (c .value2 .result) (search needs) (search needs), c .before .value .ensures, c .value2 .ensures,
-    c .before .before .before .before .before .before .before .before .pre)
+    rw (
+      ← (c .before .before .before .before .before .committed .ensures),
+      c .before .before .before .before .if1 .taken,
+      ← (c .before .before .before .write .ensures),
+      c .before .before .if2 .taken,
+      same-bits (c .before .value .result) (c .value2 .result) (search needs) (search needs),
+      c .before .value .ensures,
+      c .value2 .ensures,
+      c .before .before .before .before .before .before .before .before .pre,
+    )
 
 returns-2 : tie.Need-returns-2
 unfolding broken24

@@ -7,14 +7,27 @@ use Rattle.justify.proofs.single.broken25.Tie as tie
 returns : tie.Need-returns
 unfolding broken25
 returns c =
-    rw (← (c .before .before .before .before .before .before .previous .ensures), ← (c .before .before .before .before .before .committed .ensures), c .before .before .before .before .if1 .taken,
-    ← (c .before .before .before .read .ensures), c .before .before .if2 .taken, c .before .seen .ensures, c .seen2 .ensures, c .before .before .before .before .before .before .before .before .before .pre)
+    rw (
+      ← (c .before .before .before .before .before .before .previous .ensures),
+      ← (c .before .before .before .before .before .committed .ensures),
+      c .before .before .before .before .if1 .taken,
+      ← (c .before .before .before .read .ensures),
+      c .before .before .if2 .taken,
+      c .before .seen .ensures,
+      c .seen2 .ensures,
+      c .before .before .before .before .before .before .before .before .before .pre,
+    )
 
 returns-2 : tie.Need-returns-2
 unfolding broken25
 returns-2 c =
-    rw (← (c .before .before .before .before .previous .ensures), ← (c .before .before .before .committed .ensures), c .before .before .if1 .taken,
-    ← (c .before .read .ensures), c .if2 .left)
+    rw (
+      ← (c .before .before .before .before .previous .ensures),
+      ← (c .before .before .before .committed .ensures),
+      c .before .before .if1 .taken,
+      ← (c .before .read .ensures),
+      c .if2 .left,
+    )
 
 returns-3 : tie.Need-returns-3
 unfolding broken25

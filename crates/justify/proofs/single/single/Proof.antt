@@ -7,7 +7,7 @@ use borrow.Author.Tests.{lt-ltb, le-ltb, ne-eqb}
 use Rattle.model.specs.Search.{none}
 use Rattle.model.specs.Layout.{size}
 use Rattle.justify.specs.Numbered.{single}
-use Rattle.justify.proofs.Numbered.{span-e, span-f}
+use Rattle.justify.proofs.Names.{span-e, span-f}
 use Rattle.justify.proofs.Stage.{by-stage26}
 use Rattle.justify.proofs.single.single.Statement.{statement}
 use Rattle.justify.proofs.single.single.Tie as tie

@@ -22,7 +22,7 @@ module _ (n : ℕ) (p : ℕ → Bool) where
       record {
         within = omega arith;
         none-before = h;
-        holds = λ l. absurd (let z : ⊥ = omega arith in z)
+        holds = λ l. absurd (let z : ⊥ = omega arith in z);
       }
 
   pub none-holds : (a : ℕ) → First n p a → n ≤ a → any n p ≡ false

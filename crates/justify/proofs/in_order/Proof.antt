@@ -1,0 +1,56 @@
+-- `justify::in_order` meets its contract. The loop's invariant: none of the first k rules is broken.
+use Prim.Native.Nat.{_+_, _<_, _≤_, _-_}
+use native.Mathlib.Omega.{arith}
+use mathlib.Core.Path.{_≡_, sym, _∙_}
+use borrow.Author.Needs.{needs}
+use Rattle.model.specs.Limits.{rowWords}
+use Rattle.model.specs.Answers.{pass, upTo}
+use Rattle.model.specs.WorkArea.{bit}
+use Rattle.model.proofs.Answers.{upTo-none, upTo-pass, upTo-at}
+use Rattle.justify.specs.Numbered.{numbered}
+use Rattle.justify.proofs.Chain.{in-turn, clean-numbered}
+use Rattle.justify.proofs.in_order.Statement.{statement}
+use Rattle.justify.proofs.in_order.Tie as tie
+
+abbrev Inv-loop : tie.InvT-loop
+Inv-loop r e f e-part f-part twins stages ahead i k₀ k =
+    (k ≤ 9) × (upTo k (λ j. numbered (21 + j) (bit rowWords e-part) (bit rowWords f-part) r e f i) ≡ pass)
+
+abbrev μ-loop : tie.MeasureT-loop
+μ-loop r e f e-part f-part twins stages ahead i k₀ k = 9 - k
+
+loop-holds : tie.Need-loop-holds Inv-loop μ-loop
+loop-holds c = (search needs, upTo-none _)
+
+returns : tie.Need-returns Inv-loop μ-loop
+returns c =
+    rw (in-turn, ← (c .before .before .before .before .before .before .before .before .before .before .pre .1 .first-section), ← (c .before .before .before .before .before .before .before .before .before .before .pre .1 .own-section))
+    (c .before .before .numbered .ensures ∙ sym (upTo-at _ _ _ (c .before .before .before .loop-test .taken) (c .before .before .before .before .loop .inv .1) (λ z. c .if1 .taken (rw (c .before .before .numbered .ensures) z))))
+
+loop-again : tie.Need-loop-again Inv-loop μ-loop
+loop-again c =
+    let l : 0 < 21 + c .before .before .before .before .loop .k = omega arith in (
+      search needs,
+      upTo-pass _ _ (c .before .before .before .before .loop .inv .1)
+          (clean-numbered _ _ _ _ _ _ _ l (rw (c .before .before .numbered .ensures) at (c .if1 .left))),
+    )
+
+returns-2 : tie.Need-returns-2 Inv-loop μ-loop
+returns-2 c =
+    let e : c .before .loop .k ≡ 9 = omega arith in
+    rw (in-turn, ← (c .before .before .before .before .before .before .before .pre .1 .first-section), ← (c .before .before .before .before .before .before .before .pre .1 .own-section)) (sym (rw e at (c .before .loop .inv .1)))
+
+pub in-order-spec : {M : Type 1} → statement M
+in-order-spec =
+    tie.close
+    (tie.spec
+    Inv-loop
+    μ-loop
+    loop-holds
+    (λ c. search needs)
+    (λ c κs. search needs)
+    returns
+    (λ c. search needs)
+    (λ c. search needs)
+    loop-again
+    returns-2)

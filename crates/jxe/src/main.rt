@@ -1,0 +1,64 @@
+// Judges the record on standard input: a line for each question, and the list after order's 0.
+use libc::{STDIN_FILENO, STDOUT_FILENO};
+use model::Answer;
+
+// One byte more than the longest record, so that a longer one is seen to be too long.
+const ROOM: usize = 23076;
+
+// The words of all parts, and of one; the actions of the longest section.
+const WORDS: usize = 2304;
+const PART: usize = 256;
+const ACTIONS: usize = 128;
+
+fn number(n: u64) {
+    io::write_all(STDOUT_FILENO, b" ");
+    io::print_decimal(STDOUT_FILENO, n);
+}
+
+fn answer(question: &[u8], r: Answer) {
+    io::write_all(STDOUT_FILENO, question);
+    number(r.n as u64);
+    number(r.s as u64);
+    number(r.a as u64);
+    number(r.b as u64);
+}
+
+// The count of section 0, then that many entries of the list.
+fn positions(record: &[u8], list: &[u16]) {
+    let x = record::bounds(record, 0);
+    let at = x.at;
+    let end = x.end;
+    let n = fields::size(&record[at..end]) as usize;
+    number(n as u64);
+    for i in 0..n {
+        if i < list.len() {
+            number(list[i] as u64);
+        }
+    }
+}
+
+fn order(record: &[u8]) {
+    let mut work = [0u64; PART];
+    let mut list = [0u16; ACTIONS];
+    let r = jmm::order(record, &mut work, &mut list);
+    answer(b"order", r);
+    if r.n == 0 {
+        positions(record, &list);
+    }
+    io::write_all(STDOUT_FILENO, b"\n");
+}
+
+fn judge(record: &[u8]) {
+    let mut work = [0u64; WORDS];
+    answer(b"verdict", jmm::verdict(record, &mut work));
+    io::write_all(STDOUT_FILENO, b"\n");
+    answer(b"race", jmm::race(record, &mut work));
+    io::write_all(STDOUT_FILENO, b"\n");
+    order(record);
+}
+
+fn main() {
+    let mut record = [0u8; ROOM];
+    let n = io::read_full(STDIN_FILENO, &mut record);
+    judge(&record[..n]);
+}

@@ -1,16 +1,22 @@
 -- The parts in the words lent.
 use Prim.Native.Nat.{ℕ, zero, suc, _+_, _*_, _-_, _<_, _≤_}
 use native.Mathlib.Nat.{eq-or-lt-of-le}
+use native.Mathlib.Numerals.{add-one}
 use native.Mathlib.Omega.{arith}
 use mathlib.Core.Path.{_≡_, refl, sym, ap, _∙_}
 use mathlib.Core.Logic.{⊎-elim}
 use mathlib.Core.List.{List, _++_}
 use lib.ListN.{length, take, drop, length-append, length-take, length-drop, take-append-drop}
-use lib.Seq.{take-at, drop-at, length-take-le, drop-append-le, take-append-le}
-use Rattle.model.specs.Limits.{partWords}
-use Rattle.model.specs.Layout.{section}
+use lib.Seq.{drop-drop, take-at, drop-at, length-take-le, drop-append-le, take-append-le}
+use Rattle.model.specs.Limits.{maxActions, partWords}
+use Rattle.model.specs.Layout.{section, size}
 use Rattle.model.specs.WorkArea.{part, laid, filled}
 use Rattle.model.proofs.Words.{length-part}
+use Rattle.record.specs.declared.Span.{Span}
+use Rattle.record.specs.Sections.{bounded}
+use Rattle.hb.specs.Edges.{happens}
+use Rattle.hb.proofs.Filled.{happens-part}
+use Rattle.jmm.proofs.Spans.{whole}
 
 module _ (ws : List ℕ) (s : ℕ) (p : List ℕ) (l : length p ≡ partWords) (room : partWords * s + partWords ≤ length ws) where
   pub length-laid : length (laid ws s p) ≡ length ws
@@ -42,7 +48,32 @@ module _ (ws : List ℕ) (s : ℕ) (p : List ℕ) (l : length p ≡ partWords) (
           rw (drop-append-le (partWords * t) before us (omega arith))
           (take-append-le partWords (drop (partWords * t) before) us (omega arith))
 
+-- a part that was lent to be filled for section s, and came back as ys
+module _ (r us ys : List ℕ) (s : ℕ) {x : Span} (e : x ≡ bounded r s) (small : size (section r s) ≤ maxActions) (room : partWords * s + partWords ≤ length us) where
+  abbrev lent : List ℕ
+  lent = take (partWords * s + partWords - partWords * s) (drop (partWords * s) us)
+
+  length-lent : length lent ≡ partWords
+  length-lent = simp (length-take, length-drop) (omega arith)
+
+  pub laid-back :
+    ys ≡ happens (take (x .end - x .at) (drop (x .at) r)) lent →
+      take (partWords * s) us ++ (ys ++ drop (partWords * s + partWords - partWords * s) (drop (partWords * s) us)) ≡ laid us s (part (section r s))
+  unfolding laid
+  laid-back filled =
+      let k : partWords * s + partWords - partWords * s ≡ partWords = omega arith in
+      let same : ys ≡ part (section r s) = filled ∙ ap (λ (z : List ℕ). happens z lent) (whole r s e) ∙ happens-part (section r s) lent length-lent small in
+      rw (same, k, drop-drop)
+
 module _ (r ws : List ℕ) where
+  pub filled-none : filled r 0 ws ≡ ws
+  unfolding filled
+  filled-none = refl
+
+  pub filled-more : (s : ℕ) {us : List ℕ} → us ≡ filled r s ws → laid us s (part (section r s)) ≡ filled r (s + 1) ws
+  unfolding filled
+  filled-more s e = rw (add-one s, e)
+
   pub length-filled : (n : ℕ) → partWords * n ≤ length ws → length (filled r n ws) ≡ length ws
   unfolding filled
   length-filled zero h = refl

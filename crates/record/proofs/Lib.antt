@@ -1,3 +1,4 @@
 pub mod Parts
 pub mod Cuts
 pub mod Signed
+pub mod Tables

@@ -1,4 +1,12 @@
+-- `record::fielded` meets its contract.
+use native.Mathlib.Omega.{arith}
+use mathlib.Core.Path.{_≡_, sym, ap, _∙_}
+use mathlib.Core.Bool.{not, Bool·beq}
+use lib.Dec.{eqb}
 use borrow.Author.Needs.{needs}
+use borrow.Author.Tests.{eq-eqb, ne-eqb, lt-ltb, le-ltb, not-true, not-false}
+use Rattle.model.specs.Layout.{threads, ident, thread}
+use Rattle.record.proofs.Tables.{aimed, timed, placed, unnamed, unthreaded, unaimed, untimed, unplaced, all-hold}
 use Rattle.record.proofs.fielded.Statement.{statement}
 use Rattle.record.proofs.fielded.Tie as tie
 use Rattle.record.proofs.fielded.Reads as reads
@@ -16,97 +24,76 @@ use Rattle.record.proofs.carried.Reads as carried-reads
 use Rattle.record.proofs.committed_in.Reads as committed-in-reads
 use Rattle.record.proofs.targeted.Reads as targeted-reads
 
--- src/lib.rt:239:8
-ident-requires : tie.Need-ident-requires
-ident-requires c κs = search needs
+-- what the tests come to, of the arguments: the target's, the commit number's, the place's
+aim : (c : tie.After-targeted) → let p = c .before .before .before .before .before .before .before .before .before .before .before .args in c .targeted .result ≡ aimed (p .r .now) (p .s) (p .x .now) (p .a)
+aim c = cc
 
--- src/lib.rt:240:9
+time : (c : tie.After-committed-in) → let p = c .before .before .before .before .before .before .before .before .before .before .before .before .before .before .before .args in c .committed-in .result ≡ timed (p .r .now) (p .s) (p .x .now) (p .a)
+time c = cc
+
+put : (c : tie.After-place) → let p = c .before .before .before .before .before .before .before .before .before .before .before .before .before .before .before .before .before .args in Bool·beq (c .before .before .before .before .before .before .before .before .row-of .result .sync) (not (eqb (c .place .result) 0)) ≡ placed (p .r .now) (p .s) (p .x .now) (p .a)
+put c = cc
+
 returns : tie.Need-returns
-returns c = ?
+returns c =
+    let p = c .before .before .before .before .args in
+    sym (unnamed (p .r .now) (p .s) (p .x .now) (p .a) (rw (← c .before .ident .ensures, eq-eqb _ _ (c .if1 .taken))))
 
--- src/lib.rt:242:8
-thread-requires : tie.Need-thread-requires
-thread-requires c κs = search needs
-
--- src/lib.rt:242:32
-threads-requires : tie.Need-threads-requires
-threads-requires c κs = search needs
-
--- src/lib.rt:243:9
 returns-2 : tie.Need-returns-2
-returns-2 c = ?
+returns-2 c =
+    let p = c .before .before .before .before .before .before .before .args in
+    sym (unthreaded (p .r .now) (p .s) (p .x .now) (p .a) (le-ltb (thread (p .x .now) (p .a)) (threads (p .r .now)) (omega arith)))
 
--- src/lib.rt:245:27
-kind-requires : tie.Need-kind-requires
-kind-requires c κs = search needs
-
--- src/lib.rt:245:9
-row-of-requires : tie.Need-row-of-requires
-row-of-requires c κs = search needs
-
--- src/lib.rt:246:24
-target-requires : tie.Need-target-requires
-target-requires c κs = search needs
-
--- src/lib.rt:246:9
-targeted-requires : tie.Need-targeted-requires
-targeted-requires c κs = search needs
-
--- src/lib.rt:247:9
 returns-3 : tie.Need-returns-3
-returns-3 c = ?
+returns-3 c =
+    let p = c .before .before .before .before .before .before .before .before .before .before .before .before .args in
+    sym (unaimed (p .r .now) (p .s) (p .x .now) (p .a) (sym (aim (c .before)) ∙ not-true _ (c .if3 .taken)))
 
--- src/lib.rt:249:22
-justifying-requires : tie.Need-justifying-requires
-justifying-requires c κs = search needs
-
--- src/lib.rt:249:48
-commit-requires : tie.Need-commit-requires
-commit-requires c κs = search needs
-
--- src/lib.rt:249:9
-committed-in-requires : tie.Need-committed-in-requires
-committed-in-requires c κs = search needs
-
--- src/lib.rt:250:9
 returns-4 : tie.Need-returns-4
-returns-4 c = ?
+returns-4 c =
+    let p = c .before .before .before .before .before .before .before .before .before .before .before .before .before .before .before .before .args in
+    sym (untimed (p .r .now) (p .s) (p .x .now) (p .a) (sym (time (c .before)) ∙ not-true _ (c .if4 .taken)))
 
--- src/lib.rt:252:18
-place-requires : tie.Need-place-requires
-place-requires c κs = search needs
-
--- src/lib.rt:254:9
 returns-5 : tie.Need-returns-5
-returns-5 c = ?
+returns-5 c =
+    let p = c .before .before .before .before .before .before .before .before .before .before .before .before .before .before .before .before .before .before .before .args in
+    sym (unplaced (p .r .now) (p .s) (p .x .now) (p .a) (sym (put (c .before .before)) ∙ not-true _ (c .if5 .taken)))
 
--- src/lib.rt:256:5
-carried-requires : tie.Need-carried-requires
-carried-requires c κs = search needs
-
--- src/lib.rt:236:1
 returns-6 : tie.Need-returns-6
-returns-6 c = ?
+returns-6 c =
+    let d = c .before .before .before .before in
+    let b = d .before .before .before .before in
+    let g = b .before .before .before .before .before in
+    let t = g .before .before .before in
+    let p = t .before .before .before .before .args in
+    cc
+    (all-hold (p .r .now) (p .s) (p .x .now) (p .a)
+    (rw (ne-eqb (ident (p .x .now) (p .a)) 0 (λ e. t .if1 .left (t .before .ident .ensures ∙ e))))
+    (lt-ltb (thread (p .x .now) (p .a)) (threads (p .r .now))
+    (omega (arith, g .if2 .left, g .before .threads .ensures, g .before .before .thread .ensures)))
+    (sym (aim (b .before)) ∙ not-false _ (b .if3 .left))
+    (sym (time (d .before)) ∙ not-false _ (d .if4 .left))
+    (sym (put (c .before .before .before)) ∙ not-false _ (c .before .if5 .left)))
 
 pub fielded-spec : {M : Type 1} → statement M
 fielded-spec =
     tie.close
     (tie.spec
-    ident-requires
+    (λ c κs. search needs)
     returns
-    thread-requires
-    threads-requires
+    (λ c κs. search needs)
+    (λ c κs. search needs)
     returns-2
-    kind-requires
-    row-of-requires
-    target-requires
-    targeted-requires
+    (λ c κs. search needs)
+    (λ c κs. search needs)
+    (λ c κs. search needs)
+    (λ c κs. search needs)
     returns-3
-    justifying-requires
-    commit-requires
-    committed-in-requires
+    (λ c κs. search needs)
+    (λ c κs. search needs)
+    (λ c κs. search needs)
     returns-4
-    place-requires
+    (λ c κs. search needs)
     returns-5
-    carried-requires
+    (λ c κs. search needs)
     returns-6)

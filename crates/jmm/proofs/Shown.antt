@@ -1,0 +1,39 @@
+-- The words of a filled part show happens-before, and what the layers below promise of them is what the questions ask.
+use Prim.Native.Nat.{ℕ, _+_, _*_, _-_, _<_, _≤_}
+use native.Mathlib.Omega.{arith}
+use mathlib.Core.Path.{_≡_, refl, sym, ap, ap₂, _∙_}
+use mathlib.Core.List.{List}
+use mathlib.Core.Bool.{Bool, cond, true}
+use lib.ListN.{length, take, drop}
+use borrow.Author.Tests.{le-leb}
+use Rattle.model.specs.declared.Answer.{Answer}
+use Rattle.model.specs.Limits.{maxActions, rowWords, partWords}
+use Rattle.model.specs.Answers.{pass}
+use Rattle.model.specs.Layout.{K, section, size}
+use Rattle.model.specs.Relations.{hb}
+use Rattle.model.specs.WorkArea.{bit, part, filled}
+use Rattle.model.specs.Rules.{well-formed, racing}
+use Rattle.model.specs.Justified.{committing}
+use Rattle.model.proofs.Words.{bit-part}
+use Rattle.record.specs.declared.Span.{Span}
+use Rattle.record.specs.Sections.{bounded}
+use Rattle.jmm.specs.Accepted.{Accepted, Filled}
+use Rattle.jmm.proofs.Spans.{whole}
+use Rattle.jmm.proofs.Laid.{length-filled, part-filled}
+
+-- what a question leaves in the words
+pub filled-parts : (r ws : List ℕ) (n : ℕ) {us : List ℕ} → Accepted r n (length ws) → us ≡ filled r n ws → Filled r n us
+filled-parts r ws n a e =
+    let room = a .room in
+    rw e (record { accepted = rw (length-filled r ws n room) a; parts = λ s l. part-filled r ws n s l room })
+
+module _ (r : List ℕ) (n : ℕ) (ws : List ℕ) (f : Filled r n ws) (s : ℕ) (l : s < n) where
+  shown : bit rowWords (take (partWords * s + partWords - partWords * s) (drop (partWords * s) ws)) ≡ hb (section r s)
+  shown =
+      let k : partWords * s + partWords - partWords * s ≡ partWords = omega arith in
+      rw (k, f .parts s l) (bit-part (section r s) (f .accepted .sized s l))
+
+  pub well-formed-as : {x : Span} {q : Answer} → x ≡ bounded r s →
+    q ≡ well-formed (bit rowWords (take (partWords * s + partWords - partWords * s) (drop (partWords * s) ws))) s (take (x .end - x .at) (drop (x .at) r)) →
+      q ≡ well-formed (hb (section r s)) s (section r s)
+  well-formed-as e h = h ∙ ap₂ (λ (g : ℕ → ℕ → Bool) (y : List ℕ). well-formed g s y) shown (whole r s e)

@@ -42,6 +42,7 @@ int main(int argc, char **argv) {
         fprintf(stderr, "usage: compare VECTORS [COUNT [FIRST SEED]]\n");
         return 2;
     }
+    setvbuf(stdout, NULL, _IOLBF, BUFSIZ);
     while ((more = next_vector(file, &v)) == 1) {
         line++;
         int fine = holds(VERDICT, v.rec, v.len, v.verdict, "vector", line) & holds(RACE, v.rec, v.len, v.race, "vector", line);

@@ -8,10 +8,8 @@
 #include <stdio.h>
 #include <stdlib.h>
 
-/* N + 2^8 S + 2^16 A + 2^32 B */
 static void print_answer(const char *question, uint64_t x) {
-    printf("%s %u %u %u %u\n", question, (unsigned)(x & 0xff), (unsigned)(x >> 8 & 0xff), (unsigned)(x >> 16 & 0xffff),
-           (unsigned)(x >> 32));
+    printf("%s %u %u %u %u\n", question, JXE_N(x), JXE_S(x), JXE_A(x), JXE_B(x));
 }
 
 /* the whole file in memory of its own, or NULL */

@@ -223,14 +223,16 @@ static int some_monitor(struct draft *d, const struct stage *s, int owner) {
 
 /* one step of thread t; false where the kind drawn is not possible now */
 static int step(struct draft *d, struct stage *s, const struct plan *p, unsigned t, struct action *x) {
-    static const uint8_t dice[50] = {
-        READ,   READ,   READ,   READ,   READ,   READ,  READ,  READ,  READ,  READ,  READ,   WRITE,    WRITE,
-        WRITE,  WRITE,  WRITE,  WRITE,  WRITE,  WRITE, WRITE, WRITE, VREAD, VREAD, VREAD,  VREAD,    VREAD,
-        VWRITE, VWRITE, VWRITE, VWRITE, VWRITE, LOCK,  LOCK,  LOCK,  LOCK,  LOCK,  UNLOCK, UNLOCK,   UNLOCK,
-        UNLOCK, START,  START,  JOIN,   JOIN,   LAST,  START, JOIN,  WRITE, EXTERNAL, EXTERNAL,
+    static const struct {
+        uint8_t kind, weight;
+    } dice[] = {        /* the weights make 50 */
+        {READ, 11}, {WRITE, 11}, {VREAD, 5}, {VWRITE, 5}, {LOCK, 5}, {UNLOCK, 4}, {START, 3}, {JOIN, 3}, {LAST, 1}, {EXTERNAL, 2},
     };
-    unsigned kind = dice[below(&d->g, 50)], others = 0;
+    unsigned roll = below(&d->g, 50), k = 0, others = 0;
     int target = 0;
+    while (roll >= dice[k].weight)
+        roll -= dice[k++].weight;
+    unsigned kind = dice[k].kind;
     if (!s->begun[t] && s->started[t])
         kind = FIRST;
     else if (!s->begun[t] && percent(&d->g, 20))
@@ -300,15 +302,15 @@ static void play(struct draft *d, const struct plan *p) {
         struct action x;
         if (!runs(&s, t) || percent(&d->g, 40))
             t = below(&d->g, d->threads);
-        if (runs(&s, t) && step(d, &s, p, t, &x))
-            e->a[e->n++] = x;
-        else if (runs(&s, t) && percent(&d->g, 3)) {    /* a thread for which little is possible */
-            x = (struct action){.id = fresh_id(d), .thread = (uint8_t)t, .kind = EXTERNAL, .target = 7};
-            if (!s.begun[t] && s.started[t])
+        if (!runs(&s, t))
+            continue;
+        if (!step(d, &s, p, t, &x)) {
+            if ((!s.begun[t] && s.started[t]) || !percent(&d->g, 3))
                 continue;
-            s.begun[t] = 1;
-            e->a[e->n++] = x;
+            s.begun[t] = 1;             /* little is possible; so that the play goes on */
+            x = (struct action){.id = fresh_id(d), .thread = (uint8_t)t, .kind = EXTERNAL, .target = 7};
         }
+        e->a[e->n++] = x;
     }
     number_places(e);
     relate(e, d->before);
@@ -892,7 +894,7 @@ static void insert_locking(struct draft *d) {
 
 /* a section, E itself seldom where there are others, the last one often */
 static struct execution *some_section(struct draft *d) {
-    if (d->executions == 0 || percent(&d->g, 15))
+    if (d->executions == 0 || percent(&d->g, 25))
         return &d->e[0];
     if (percent(&d->g, 30))
         return &d->e[d->executions];

@@ -138,7 +138,7 @@ static struct answer at(unsigned n, unsigned s, unsigned a) { return (struct ans
 static struct answer pair(unsigned n, unsigned s, unsigned a, unsigned b) { return (struct answer){n, s, a, b}; }
 static const struct answer FINE = {0, 0, NO_POSITION, NO_POSITION};
 
-static inline unsigned hash(unsigned id) { return (id * 40503u >> 7) % SLOTS; }
+static inline unsigned hash(unsigned id) { return (uint32_t)(id * 2654435769u) >> 24; }        /* one of 256 slots */
 
 /* the position of an identifier, or ABSENT */
 static unsigned find(const struct section *e, unsigned id) {

@@ -136,6 +136,7 @@ int main(int argc, char **argv) {
     unsigned long count = strtoul(argv[2], NULL, 0);
     char **command = argv + 3;
     signal(SIGPIPE, SIG_IGN);
+    setvbuf(stdout, NULL, _IOLBF, BUFSIZ);
     while ((more = next_vector(file, &v)) == 1) {
         right_lines((struct answer[]){v.verdict, v.race, v.order}, v.count, v.list, right);
         int fine = holds(command, v.rec, v.len, right, "vector", ++line);

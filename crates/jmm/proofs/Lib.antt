@@ -4,3 +4,4 @@ pub mod Spans
 pub mod Laid
 pub mod Shown
 pub mod Clean
+pub mod Chain

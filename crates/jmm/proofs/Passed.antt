@@ -15,6 +15,7 @@ use Rattle.model.specs.Answers.{answer, when, upTo, _then_}
 use Rattle.model.specs.Limits.{maxActions, partWords}
 use Rattle.model.specs.Layout.{version, threads, variables, monitors, K, volatile, start, section, size, two}
 use Rattle.model.specs.Refused.{unmarked, out-of-range, cut, rule5, rule6, rule7, refusal}
+use Rattle.model.specs.Questions.{race-refusal, order-refusal}
 use Rattle.record.proofs.Parts.{size-section}
 use Rattle.jmm.specs.Accepted.{Accepted}
 
@@ -95,3 +96,15 @@ module _ (r : List ℕ) (need lent : ℕ) (h : refusal r need lent .n ≡ 0) whe
       let few = few-sections in
       let enough = lent-enough in
       record { few = omega arith; room = omega arith; sized = λ s m. sized s (omega arith) }
+
+-- and of one that order does not refuse
+module _ (r : List ℕ) (lent room : ℕ) (h : order-refusal r lent room .n ≡ 0) where
+  both : (refusal r partWords lent .n ≡ 0) × (given (ltb room (size (section r 0))) 8 .n ≡ 0)
+  unfolding order-refusal race-refusal
+  both = then-both (refusal r partWords lent) (given (ltb room (size (section r 0))) 8) h
+
+  pub order-passed : refusal r partWords lent .n ≡ 0
+  order-passed = both .0
+
+  pub list-room : size (section r 0) ≤ room
+  list-room = ltb-false room (size (section r 0)) (when-not (ltb room (size (section r 0))) 8 0 (omega arith) (both .1))

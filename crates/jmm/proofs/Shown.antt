@@ -17,6 +17,7 @@ use Rattle.model.specs.Justified.{committing}
 use Rattle.model.proofs.Words.{bit-part}
 use Rattle.record.specs.declared.Span.{Span}
 use Rattle.record.specs.Sections.{bounded}
+use Rattle.justify.specs.Numbered.{within-limit}
 use Rattle.jmm.specs.Accepted.{Accepted, Filled}
 use Rattle.jmm.proofs.Spans.{whole}
 use Rattle.jmm.proofs.Laid.{length-filled, part-filled}
@@ -37,3 +38,23 @@ module _ (r : List ℕ) (n : ℕ) (ws : List ℕ) (f : Filled r n ws) (s : ℕ) 
     q ≡ well-formed (bit rowWords (take (partWords * s + partWords - partWords * s) (drop (partWords * s) ws))) s (take (x .end - x .at) (drop (x .at) r)) →
       q ≡ well-formed (hb (section r s)) s (section r s)
   well-formed-as e h = h ∙ ap₂ (λ (g : ℕ → ℕ → Bool) (y : List ℕ). well-formed g s y) shown (whole r s e)
+
+-- sections 0 and i, the words of part 0 standing first
+module _ (r : List ℕ) (n : ℕ) (ws : List ℕ) (f : Filled r n ws) where
+  shown-first : 0 < n → bit rowWords (take partWords ws) ≡ hb (section r 0)
+  shown-first l = shown r n ws f 0 l
+
+  -- a step G on section 0 and its part
+  pub first-as : (G : (ℕ → ℕ → Bool) → List ℕ → Answer) {x : Span} {q : Answer} → 0 < n → x ≡ bounded r 0 →
+    q ≡ G (bit rowWords (take partWords ws)) (take (x .end - x .at) (drop (x .at) r)) → q ≡ G (hb (section r 0)) (section r 0)
+  first-as G l e h = h ∙ ap₂ G (shown-first l) (whole r 0 e)
+
+  in-limit : (i : ℕ) → i < n → within-limit r i ≡ true
+  unfolding within-limit
+  in-limit i l =
+      rw (le-leb (size (section r 0)) maxActions (f .accepted .sized 0 (omega arith)), le-leb (size (section r i)) maxActions (f .accepted .sized i l))
+
+  pub committing-as : (i : ℕ) {q : Answer} → i < n →
+    q ≡ cond (within-limit r i) (committing (bit rowWords (take partWords ws)) (bit rowWords (take (partWords * i + partWords - partWords * i) (drop (partWords * i) ws))) r i) pass →
+      q ≡ committing (hb (section r 0)) (hb (section r i)) r i
+  committing-as i l h = h ∙ rw (in-limit i l, shown-first (omega arith), shown r n ws f i l)

@@ -6,4 +6,3 @@ pub mod Lead
 pub mod Signed
 pub mod Names
 pub mod Chain
-pub mod Section

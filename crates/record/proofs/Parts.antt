@@ -9,6 +9,7 @@ use mathlib.Core.List.{List}
 use lib.ListN.{length, take, drop, length-drop, drop-of-length-le, List·getD-eq-default}
 use lib.Seq.{take-all, take-nil, getD-take, getD-drop}
 use Rattle.model.specs.Layout.{two, past, start, section, size}
+use Rattle.record.specs.declared.Span.{Span}
 use Rattle.record.specs.Sections.{bounded}
 
 -- a count read at the front of what follows p is the count at p
@@ -45,18 +46,6 @@ module _ (r : List ℕ) (s : ℕ) where
   unfolding start
   start-more = rw add-one
 
-  pub section-part : take (bounded r s .end - bounded r s .at) (drop (bounded r s .at) r) ≡ section r s
-  unfolding bounded section start
-  section-part = part r (start r s) (2 + 20 * two r (start r s))
-
-  pub part-low : bounded r s .at ≤ bounded r s .end
-  unfolding bounded start
-  part-low = omega arith
-
-  pub part-high : bounded r s .end ≤ length r
-  unfolding bounded
-  part-high = omega arith
-
   pub size-section : size (section r s) ≡ two r (start r s)
   unfolding section
   size-section =
@@ -64,3 +53,17 @@ module _ (r : List ℕ) (s : ℕ) where
       let n = 2 + 20 * two r p in
       ap₂ (λ (a b : ℕ). a + 256 * b) (getD-take n (drop p r) 0 0 (omega arith)) (getD-take n (drop p r) 1 0 (omega arith))
       ∙ two-drop r p
+
+  -- what `record::bounds` gives for section s: the part of r between them is the section, and it is a part of r
+  module _ (b : Span) (e : b ≡ bounded r s) where
+    pub span-section : take (b .end - b .at) (drop (b .at) r) ≡ section r s
+    unfolding bounded section start
+    span-section = rw e (part r (start r s) (2 + 20 * two r (start r s)))
+
+    pub span-low : b .at ≤ b .end
+    unfolding bounded start
+    span-low = rw e (omega arith)
+
+    pub span-high : b .end ≤ length r
+    unfolding bounded
+    span-high = rw e (omega arith)

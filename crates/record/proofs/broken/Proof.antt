@@ -1,4 +1,9 @@
+-- `record::broken` meets its contract.
+use mathlib.Core.Path.{ap}
+use mathlib.Core.Bool.{not}
 use borrow.Author.Needs.{needs}
+use borrow.Author.Tests.{ne-eqb}
+use Rattle.record.specs.Sections.{broken}
 use Rattle.record.proofs.broken.Statement.{statement}
 use Rattle.record.proofs.broken.Tie as tie
 use Rattle.record.proofs.broken.Reads as reads
@@ -6,21 +11,13 @@ use Rattle.record.proofs.broken.Lts as lts
 use Rattle.record.proofs.fielded.Reads as fielded-reads
 use Rattle.record.proofs.met.Reads as met-reads
 
--- src/lib.rt:277:15
-fielded-requires : tie.Need-fielded-requires
-fielded-requires c κs = search needs
-
--- src/lib.rt:278:14
-met-requires : tie.Need-met-requires
-met-requires c κs = search needs
-
--- src/lib.rt:273:1
 returns : tie.Need-returns
-returns c = ?
+unfolding broken
+returns c = rw (c .before .match .keys1) (ap not (c .fielded .ensures))
 
--- src/lib.rt:273:1
 returns-2 : tie.Need-returns-2
-returns-2 c = ?
+unfolding broken
+returns-2 c = rw (ne-eqb _ 6 (c .before .match .rest .1)) (c .met .ensures)
 
 pub broken-spec : {M : Type 1} → statement M
-broken-spec = tie.close (tie.spec fielded-requires met-requires returns returns-2)
+broken-spec = tie.close (tie.spec (λ c κs. search needs) (λ c κs. search needs) returns returns-2)

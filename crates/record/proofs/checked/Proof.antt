@@ -1,3 +1,14 @@
+-- `record::checked` meets its contract. The loop's invariant: the number is given for no action before a.
+use Prim.Native.Nat.{_-_, _≤_}
+use native.Mathlib.Omega.{arith}
+use mathlib.Core.Path.{_≡_, sym, _∙_}
+use mathlib.Core.Bool.{false}
+use borrow.Author.Needs.{needs}
+use Rattle.model.specs.Search.{any}
+use Rattle.model.specs.Layout.{size}
+use Rattle.model.proofs.Search.{any-none, any-pass, any-less}
+use Rattle.model.proofs.Answers.{rule-none, rule-at}
+use Rattle.record.specs.Sections.{broken}
 use Rattle.record.proofs.checked.Statement.{statement}
 use Rattle.record.proofs.checked.Tie as tie
 use Rattle.record.proofs.checked.Reads as reads
@@ -7,50 +18,42 @@ use Rattle.record.proofs.broken.Reads as broken-reads
 use Rattle.record.proofs.numbered.Reads as numbered-reads
 
 abbrev Inv-loop : tie.InvT-loop
-Inv-loop r s x number a₀ a-end a = ?
+Inv-loop r s x number a₀ a-end a = (a ≤ size x) × (any a (broken number r s x) ≡ false)
 
 abbrev μ-loop : tie.MeasureT-loop
-μ-loop r s x number a₀ a-end a = ?
+μ-loop r s x number a₀ a-end a = size x - a
 
--- src/lib.rt:286:17
-size-requires : tie.Need-size-requires Inv-loop μ-loop
-size-requires c κs = ?
-
--- src/lib.rt:286:5
 loop-holds : tie.Need-loop-holds Inv-loop μ-loop
-loop-holds c = ?
+loop-holds c = (search needs, any-none _)
 
--- src/lib.rt:287:12
-broken-requires : tie.Need-broken-requires Inv-loop μ-loop
-broken-requires c κs = ?
-
--- src/lib.rt:288:13
-numbered-requires : tie.Need-numbered-requires Inv-loop μ-loop
-numbered-requires c κs = ?
-
--- src/lib.rt:288:13
 returns : tie.Need-returns Inv-loop μ-loop
-returns c = ?
+returns c =
+    let b = c .before .before in
+    let l = b .before .before in
+    let p = l .before .before .before .before .args in
+    c .numbered .ensures
+    ∙ sym
+    (rule-at (p .number) (p .s) (size (p .x .now)) (broken (p .number) (p .r .now) (p .s) (p .x .now)) (l .loop .a)
+    (omega arith)
+    (omega arith)
+    (l .loop .inv .1)
+    (sym (b .broken .ensures) ∙ c .before .if1 .taken))
 
--- src/lib.rt:286:9
-add-a : tie.Need-add-a Inv-loop μ-loop
-add-a c = ?
-
--- src/lib.rt:286:5
-loop-less : tie.Need-loop-less Inv-loop μ-loop
-loop-less c = ?
-
--- src/lib.rt:286:5
 loop-again : tie.Need-loop-again Inv-loop μ-loop
-loop-again c = ?
+loop-again c =
+    let l = c .before .before .before in
+    let p = l .before .before .before .before .args in
+    (omega arith
+    , any-pass (broken (p .number) (p .r .now) (p .s) (p .x .now)) (l .loop .a) (l .loop .inv .1)
+    (sym (c .before .broken .ensures) ∙ c .if1 .left))
 
--- src/lib.rt:291:5
-numbered-requires-2 : tie.Need-numbered-requires-2 Inv-loop μ-loop
-numbered-requires-2 c κs = ?
-
--- src/lib.rt:283:1
 returns-2 : tie.Need-returns-2 Inv-loop μ-loop
-returns-2 c = ?
+returns-2 c =
+    let l = c .before .before in
+    let p = l .before .before .before .before .args in
+    let q = broken (p .number) (p .r .now) (p .s) (p .x .now) in
+    c .numbered2 .ensures
+    ∙ sym (rule-none (p .number) (p .s) (size (p .x .now)) q (any-less q (l .loop .a) (size (p .x .now)) (omega arith) (l .loop .inv .1)))
 
 pub checked-spec : {M : Type 1} → statement M
 checked-spec =
@@ -58,13 +61,13 @@ checked-spec =
     (tie.spec
     Inv-loop
     μ-loop
-    size-requires
+    (λ c κs. search needs)
     loop-holds
-    broken-requires
-    numbered-requires
+    (λ c κs. search needs)
+    (λ c κs. search needs)
     returns
-    add-a
-    loop-less
+    (λ c. search needs)
+    (λ c. search needs)
     loop-again
-    numbered-requires-2
+    (λ c κs. search needs)
     returns-2)

@@ -2,3 +2,4 @@
 pub mod Laws
 pub mod Marks
 pub mod Filled
+pub mod Unique

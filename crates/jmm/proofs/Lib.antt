@@ -5,3 +5,4 @@ pub mod Laid
 pub mod Shown
 pub mod Clean
 pub mod Chain
+pub mod Unique

@@ -6,3 +6,4 @@ pub mod Lead
 pub mod Signed
 pub mod Names
 pub mod Chain
+pub mod Unique

@@ -4,3 +4,5 @@ pub mod Answers
 pub mod Bench
 pub mod Serial
 pub mod Closure
+pub mod Settles
+pub mod Unique

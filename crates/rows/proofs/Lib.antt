@@ -4,3 +4,4 @@ pub mod Cleared
 pub mod Marked
 pub mod Closed
 pub mod Rounds
+pub mod Unique

@@ -82,9 +82,9 @@ sections-spec =
     (λ c. search needs)
     loop-holds
     (λ c κs. search needs)
-    (λ c. let h = low c in search needs)
-    (λ c. let h = low c in search needs)
-    (λ c. let h = high c in search needs)
+    low
+    low
+    high
     (λ c κs. search needs)
     returns
     (λ c. search needs)

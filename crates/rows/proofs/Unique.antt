@@ -1,0 +1,20 @@
+-- No second result meets a public promise of this crate.
+use mathlib.Core.Path.{sym, _∙_}
+use denote.Ref.{now}
+use Rattle.model.proofs.Settles.{Settles}
+use Rattle.rows.proofs.get.Reads as get
+use Rattle.rows.proofs.clear.Reads as clear
+use Rattle.rows.proofs.set.Reads as set
+use Rattle.rows.proofs.close.Reads as close
+
+pub get-unique : Settles get.Post (λ κs r s. r)
+get-unique κs x r q s t e f = e ∙ sym f
+
+pub clear-unique : Settles clear.Post (λ κs r s. now (s .0))
+clear-unique κs x r q s t e f = e ∙ sym f
+
+pub set-unique : Settles set.Post (λ κs r s. now (s .0))
+set-unique κs x r q s t e f = e ∙ sym f
+
+pub close-unique : Settles close.Post (λ κs r s. now (s .0))
+close-unique κs x r q s t e f = e ∙ sym f

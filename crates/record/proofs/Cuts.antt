@@ -2,27 +2,24 @@
 use Prim.Native.Nat.{ℕ, _+_, _<_, _≤_}
 use mathlib.Core.Path.{_≡_, refl, _∙_}
 use mathlib.Core.List.{List}
-use mathlib.Core.Bool.{Bool, true, false, _||_, true≢false}
+use mathlib.Core.Bool.{true, false, _||_}
 use lib.ListN.{length}
 use Rattle.model.specs.declared.Answer.{Answer}
 use lib.Dec.{ltb}
 use borrow.Author.Tests.{lt-ltb, le-ltb, ltb-false, eqb-false}
 use Rattle.model.specs.Limits.{maxActions}
 use Rattle.model.specs.Search.{none}
-use Rattle.model.specs.Answers.{answer, pass, when, upTo, _then_}
+use Rattle.model.specs.Answers.{answer, pass, when, upTo}
 use Rattle.model.specs.Layout.{two, past, start, K}
 use Rattle.model.specs.Refused.{cut, rule5}
 use Rattle.model.proofs.Answers.{upTo-at, upTo-pass, then-ends}
 use Rattle.record.specs.Sections.{cut-at}
-
-or-second : (a b : Bool) → a || b ≡ false → b ≡ false
-or-second true b h = absurd (true≢false h)
-or-second false b h = h
+use Rattle.record.proofs.Neither.{neither}
 
 -- a section that is not cut ends within the record
 pub uncut : (r : List ℕ) (p : ℕ) → cut-at r p ≡ false → past r p ≤ length r
 unfolding cut-at
-uncut r p h = ltb-false (length r) (past r p) (or-second (ltb (length r) (p + 2) || ltb maxActions (two r p)) (ltb (length r) (past r p)) h)
+uncut r p h = ltb-false (length r) (past r p) (neither (ltb (length r) (p + 2) || ltb maxActions (two r p)) (ltb (length r) (past r p)) h .1)
 
 module _ (r : List ℕ) where
   -- number 5 for section s

@@ -1,6 +1,6 @@
 -- A section is the part of the record from its start to its end.
-use Prim.Native.Nat.{ℕ, suc, _+_, _*_, _-_, _<_, _≤_, min}
-use native.Mathlib.Nat.{add-zero, min-eq-left, min-eq-right}
+use Prim.Native.Nat.{ℕ, _+_, _*_, _-_, _≤_, min}
+use native.Mathlib.Nat.{add-zero, min-eq-left}
 use native.Mathlib.Numerals.{add-one}
 use native.Mathlib.Decide.{decLe}
 use native.Mathlib.Omega.{arith}
@@ -54,16 +54,26 @@ module _ (r : List ℕ) (s : ℕ) where
       ap₂ (λ (a b : ℕ). a + 256 * b) (getD-take n (drop p r) 0 0 (omega arith)) (getD-take n (drop p r) 1 0 (omega arith))
       ∙ two-drop r p
 
-  -- what `record::bounds` gives for section s: the part of r between them is the section, and it is a part of r
+  -- the part of r between the bounds of section s is the section, and it is a part of r
+  pub section-part : take (bounded r s .end - bounded r s .at) (drop (bounded r s .at) r) ≡ section r s
+  unfolding bounded section start
+  section-part = part r (start r s) (2 + 20 * two r (start r s))
+
+  pub part-low : bounded r s .at ≤ bounded r s .end
+  unfolding bounded start
+  part-low = omega arith
+
+  pub part-high : bounded r s .end ≤ length r
+  unfolding bounded
+  part-high = omega arith
+
+  -- the same of what `record::bounds` gives
   module _ (b : Span) (e : b ≡ bounded r s) where
     pub span-section : take (b .end - b .at) (drop (b .at) r) ≡ section r s
-    unfolding bounded section start
-    span-section = rw e (part r (start r s) (2 + 20 * two r (start r s)))
+    span-section = rw e section-part
 
     pub span-low : b .at ≤ b .end
-    unfolding bounded start
-    span-low = rw e (omega arith)
+    span-low = rw e part-low
 
     pub span-high : b .end ≤ length r
-    unfolding bounded
-    span-high = rw e (omega arith)
+    span-high = rw e part-high

@@ -1,6 +1,6 @@
 -- The field check, test by test: one that fails settles it, and where all hold it comes to what the action carries.
 use Prim.Native.Nat.{ℕ}
-use mathlib.Core.Path.{_≡_, refl}
+use mathlib.Core.Path.{_≡_}
 use mathlib.Core.List.{List}
 use mathlib.Core.Bool.{Bool, true, false, not, _&&_, Bool·beq, and-false}
 use lib.Dec.{eqb, ltb}

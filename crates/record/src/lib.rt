@@ -2,11 +2,11 @@
 use model::{Answer, Kind};
 ghost use mathlib.Core.Path.{_≡_};
 ghost use Prim.Native.Nat.{_<_, _≤_, min};
-ghost use mathlib.Core.Bool.{Bool, true, false, _&&_, Bool·beq};
+ghost use mathlib.Core.Bool.{_&&_, Bool·beq};
 ghost use lib.ListN.{length};
 ghost use lib.Dec.{ltb};
 ghost use Rattle.model.specs.Search.{any, none};
-ghost use Rattle.model.specs.Answers.{answer, pass, rule};
+ghost use Rattle.model.specs.Answers.{answer, rule};
 ghost use Rattle.model.specs.Layout.{two, past, size, K, variables, volatile};
 ghost use Rattle.model.specs.Refused.{unmarked, out-of-range, rule5, targeted, committed-in, fielded, met, sections, refusal};
 ghost use Rattle.record.specs.Sections.{bounded, stray, cut-at, carried, broken};

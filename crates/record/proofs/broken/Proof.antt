@@ -6,10 +6,6 @@ use borrow.Author.Tests.{ne-eqb}
 use Rattle.record.specs.Sections.{broken}
 use Rattle.record.proofs.broken.Statement.{statement}
 use Rattle.record.proofs.broken.Tie as tie
-use Rattle.record.proofs.broken.Reads as reads
-use Rattle.record.proofs.broken.Lts as lts
-use Rattle.record.proofs.fielded.Reads as fielded-reads
-use Rattle.record.proofs.met.Reads as met-reads
 
 returns : tie.Need-returns
 unfolding broken

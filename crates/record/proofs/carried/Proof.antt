@@ -1,5 +1,4 @@
 -- `record::carried` meets its contract.
-use mathlib.Core.Path.{_≡_}
 use mathlib.Core.Bool.{_||_, and-false}
 use lib.Dec.{eqb}
 use borrow.Author.Needs.{needs}
@@ -9,11 +8,6 @@ use Rattle.record.specs.Sections.{carried}
 use Rattle.record.proofs.Signed.{zero-bits}
 use Rattle.record.proofs.carried.Statement.{statement}
 use Rattle.record.proofs.carried.Tie as tie
-use Rattle.record.proofs.carried.Reads as reads
-use Rattle.record.proofs.carried.Lts as lts
-use Rattle.fields.proofs.seen.Reads as seen-reads
-use Rattle.fields.proofs.unused.Reads as unused-reads
-use Rattle.fields.proofs.value.Reads as value-reads
 
 returns : tie.Need-returns
 unfolding carried

@@ -11,11 +11,6 @@ use Rattle.model.proofs.Answers.{rule-none, rule-at}
 use Rattle.record.specs.Sections.{broken}
 use Rattle.record.proofs.checked.Statement.{statement}
 use Rattle.record.proofs.checked.Tie as tie
-use Rattle.record.proofs.checked.Reads as reads
-use Rattle.record.proofs.checked.Lts as lts
-use Rattle.fields.proofs.size.Reads as size-reads
-use Rattle.record.proofs.broken.Reads as broken-reads
-use Rattle.record.proofs.numbered.Reads as numbered-reads
 
 abbrev Inv-loop : tie.InvT-loop
 Inv-loop r s x number a₀ a-end a = (a ≤ size x) × (any a (broken number r s x) ≡ false)

@@ -7,8 +7,6 @@ use borrow.Author.Tests.{eq-eqb, ne-eqb, le-leb, lt-leb}
 use Rattle.model.specs.Refused.{committed-in}
 use Rattle.record.proofs.committed_in.Statement.{statement}
 use Rattle.record.proofs.committed_in.Tie as tie
-use Rattle.record.proofs.committed_in.Reads as reads
-use Rattle.record.proofs.committed_in.Lts as lts
 
 returns : tie.Need-returns
 unfolding committed-in

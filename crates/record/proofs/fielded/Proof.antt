@@ -1,6 +1,6 @@
 -- `record::fielded` meets its contract.
 use native.Mathlib.Omega.{arith}
-use mathlib.Core.Path.{_≡_, sym, ap, _∙_}
+use mathlib.Core.Path.{_≡_, sym, _∙_}
 use mathlib.Core.Bool.{not, Bool·beq}
 use lib.Dec.{eqb}
 use borrow.Author.Needs.{needs}
@@ -9,20 +9,6 @@ use Rattle.model.specs.Layout.{threads, ident, thread}
 use Rattle.record.proofs.Tables.{aimed, timed, placed, unnamed, unthreaded, unaimed, untimed, unplaced, all-hold}
 use Rattle.record.proofs.fielded.Statement.{statement}
 use Rattle.record.proofs.fielded.Tie as tie
-use Rattle.record.proofs.fielded.Reads as reads
-use Rattle.record.proofs.fielded.Lts as lts
-use Rattle.fields.proofs.commit.Reads as commit-reads
-use Rattle.fields.proofs.ident.Reads as ident-reads
-use Rattle.fields.proofs.justifying.Reads as justifying-reads
-use Rattle.fields.proofs.kind.Reads as kind-reads
-use Rattle.fields.proofs.place.Reads as place-reads
-use Rattle.fields.proofs.target.Reads as target-reads
-use Rattle.fields.proofs.thread.Reads as thread-reads
-use Rattle.fields.proofs.threads.Reads as threads-reads
-use Rattle.model.proofs.row_of.Reads as row-of-reads
-use Rattle.record.proofs.carried.Reads as carried-reads
-use Rattle.record.proofs.committed_in.Reads as committed-in-reads
-use Rattle.record.proofs.targeted.Reads as targeted-reads
 
 -- what the tests come to, of the arguments: the target's, the commit number's, the place's
 aim : (c : tie.After-targeted) → let p = c .before .before .before .before .before .before .before .before .before .before .before .args in c .targeted .result ≡ aimed (p .r .now) (p .s) (p .x .now) (p .a)

@@ -13,12 +13,6 @@ use Rattle.record.proofs.Parts.{start-more}
 use Rattle.record.proofs.Cuts.{cuts, uncut, cuts-pass, rule5-cut, rule5-left, rule5-pass}
 use Rattle.record.proofs.lengths.Statement.{statement}
 use Rattle.record.proofs.lengths.Tie as tie
-use Rattle.record.proofs.lengths.Reads as reads
-use Rattle.record.proofs.lengths.Lts as lts
-use Rattle.fields.proofs.justifying.Reads as justifying-reads
-use Rattle.record.proofs.cut.Reads as cut-reads
-use Rattle.record.proofs.numbered.Reads as numbered-reads
-use Rattle.record.proofs.past.Reads as past-reads
 
 abbrev Inv-loop : tie.InvT-loop
 Inv-loop r last p₀ s₀ s-end p s =

@@ -2,7 +2,7 @@
 use Prim.Native.Nat.{ℕ, _-_, _≤_}
 use mathlib.Core.Path.{_≡_, sym, _∙_}
 use mathlib.Core.List.{List}
-use mathlib.Core.Bool.{Bool, true, false}
+use mathlib.Core.Bool.{Bool, false}
 use lib.Dec.{eqb}
 use borrow.Author.Needs.{needs}
 use borrow.Author.Tests.{eq-eqb, ne-eqb}
@@ -12,9 +12,6 @@ use Rattle.model.specs.Refused.{met}
 use Rattle.model.proofs.Search.{any-none, any-pass, any-at, any-less}
 use Rattle.record.proofs.met.Statement.{statement}
 use Rattle.record.proofs.met.Tie as tie
-use Rattle.record.proofs.met.Reads as reads
-use Rattle.record.proofs.met.Lts as lts
-use Rattle.fields.proofs.ident.Reads as ident-reads
 
 abbrev same : List ℕ → ℕ → ℕ → Bool
 same x a b = eqb (ident x b) (ident x a)

@@ -1,101 +1,117 @@
+-- `record::refusal` meets its contract.
+use Prim.Native.Nat.{_≤_}
+use native.Mathlib.Omega.{arith}
+use mathlib.Core.Path.{_≡_, sym, _∙_}
+use mathlib.Core.Bool.{false}
 use borrow.Author.Needs.{needs}
+use Rattle.model.specs.Answers.{_then_}
+use Rattle.model.specs.Layout.{version, K}
+use Rattle.model.specs.Refused.{unmarked, out-of-range, rule5, rule6, rule7, refusal}
+use Rattle.model.proofs.Answers.{then-next, then-ends}
+use Rattle.record.proofs.Stages.{long, few, sections-6, sections-7, refusal-1, refusal-2, refusal-3, refusal-4, refusal-5}
 use Rattle.record.proofs.refusal.Statement.{statement}
 use Rattle.record.proofs.refusal.Tie as tie
-use Rattle.record.proofs.refusal.Reads as reads
-use Rattle.record.proofs.refusal.Lts as lts
-use Rattle.fields.proofs.version.Reads as version-reads
-use Rattle.record.proofs.lengths.Reads as lengths-reads
-use Rattle.record.proofs.numbered.Reads as numbered-reads
-use Rattle.record.proofs.out_of_range.Reads as out-of-range-reads
-use Rattle.record.proofs.sections.Reads as sections-reads
-use Rattle.record.proofs.unmarked.Reads as unmarked-reads
 
--- src/lib.rt:315:8
-unmarked-requires : tie.Need-unmarked-requires
-unmarked-requires c κs = search needs
+-- what holds past the first three numbers, and past the fourth
+marked : (c : tie.Else1) → unmarked (c .before .before .before .args .r .now) ≡ false
+marked c = sym (c .before .unmarked .ensures) ∙ c .if1 .left
 
--- src/lib.rt:316:9
-numbered-requires : tie.Need-numbered-requires
-numbered-requires c κs = search needs
+versioned : (c : tie.Else2) → version (c .before .before .before .before .before .args .r .now) ≡ 1
+versioned c = sym (c .before .version .ensures) ∙ c .if2 .left
 
--- src/lib.rt:316:9
+ranged : (c : tie.Else3) → out-of-range (c .before .before .before .before .before .before .before .args .r .now) ≡ false
+ranged c = sym (c .before .out-of-range .ensures) ∙ c .if3 .left
+
+staged : (c : tie.Else4) → let p = c .before .before .before .before .before .before .before .before .args in refusal (p .r .now) (p .need) (p .lent) ≡ rule5 (p .r .now) then rule6 (p .r .now) then rule7 (p .r .now)
+staged c =
+    let o = c .before in
+    let p = o .before .before .before .before .before .before .before .args in
+    refusal-5 (p .r .now) (p .need) (p .lent) (marked (o .before .before .before .before)) (versioned (o .before .before)) (ranged o) (c .if4 .left)
+
+enough : (c : tie.Else4) → K (c .before .before .before .before .before .before .before .before .args .r .now) ≤ 8
+enough c = few (c .before .before .before .before .before .before .before .before .args .r .now) (ranged (c .before))
+
 returns : tie.Need-returns
-returns c = ?
+returns c =
+    let p = c .before .before .before .before .args in
+    c .numbered .ensures ∙ sym (refusal-1 (p .r .now) (p .need) (p .lent) (sym (c .before .before .unmarked .ensures) ∙ c .before .if1 .taken))
 
--- src/lib.rt:318:8
-version-requires : tie.Need-version-requires
-version-requires c κs = search needs
-
--- src/lib.rt:319:9
-numbered-requires-2 : tie.Need-numbered-requires-2
-numbered-requires-2 c κs = search needs
-
--- src/lib.rt:319:9
 returns-2 : tie.Need-returns-2
-returns-2 c = ?
+returns-2 c =
+    let v = c .before .before in
+    let p = v .before .before .before .before .args in
+    c .numbered2 .ensures
+    ∙ sym (refusal-2 (p .r .now) (p .need) (p .lent) (marked (v .before)) (λ e. c .before .if2 .taken (v .version .ensures ∙ e)))
 
--- src/lib.rt:321:8
-out-of-range-requires : tie.Need-out-of-range-requires
-out-of-range-requires c κs = search needs
-
--- src/lib.rt:322:9
-numbered-requires-3 : tie.Need-numbered-requires-3
-numbered-requires-3 c κs = search needs
-
--- src/lib.rt:322:9
 returns-3 : tie.Need-returns-3
-returns-3 c = ?
+returns-3 c =
+    let o = c .before .before in
+    let p = o .before .before .before .before .before .before .args in
+    c .numbered3 .ensures
+    ∙ sym
+    (refusal-3 (p .r .now) (p .need) (p .lent) (marked (o .before .before .before)) (versioned (o .before))
+    (sym (o .out-of-range .ensures) ∙ c .before .if3 .taken))
 
--- src/lib.rt:325:9
-numbered-requires-4 : tie.Need-numbered-requires-4
-numbered-requires-4 c κs = search needs
-
--- src/lib.rt:325:9
 returns-4 : tie.Need-returns-4
-returns-4 c = ?
+returns-4 c =
+    let o = c .before .before in
+    let p = o .before .before .before .before .before .before .before .args in
+    c .numbered4 .ensures
+    ∙ sym
+    (refusal-4 (p .r .now) (p .need) (p .lent) (marked (o .before .before .before .before)) (versioned (o .before .before)) (ranged o)
+    (c .before .if4 .taken))
 
--- src/lib.rt:327:9
 lengths-requires : tie.Need-lengths-requires
-lengths-requires c κs = ?
+lengths-requires c κs =
+    (long (c .before .before .before .before .before .before .before .before .args .r .now) (marked (c .before .before .before .before .before)), enough c)
 
--- src/lib.rt:329:9
 returns-5 : tie.Need-returns-5
-returns-5 c = ?
+returns-5 c =
+    let l = c .before .before in
+    let r = l .before .before .before .before .before .before .before .before .before .args .r .now in
+    let e = l .lengths .ensures in
+    e ∙ sym (staged (l .before) ∙ then-ends (rule5 r) (rule6 r then rule7 r) (rw e at (c .if5 .taken)))
 
--- src/lib.rt:331:9
-sections-requires : tie.Need-sections-requires
-sections-requires c κs = ?
+-- past number 5, and past 6
+whole : (c : tie.Else5) → let p = c .before .before .before .before .before .before .before .before .before .before .before .args in refusal (p .r .now) (p .need) (p .lent) ≡ rule6 (p .r .now) then rule7 (p .r .now)
+whole c =
+    let l = c .before .before in
+    let r = l .before .before .before .before .before .before .before .before .before .args .r .now in
+    staged (l .before) ∙ then-next (rule5 r) (rule6 r then rule7 r) (rw (l .lengths .ensures) at (c .if5 .left))
 
--- src/lib.rt:333:9
+sixth : (c : tie.After-sections) → c .sections .result ≡ rule6 (c .before .before .before .before .before .before .before .before .before .before .before .before .args .r .now)
+sixth c = c .sections .ensures ∙ sections-6 (c .before .before .before .before .before .before .before .before .before .before .before .before .args .r .now)
+
 returns-6 : tie.Need-returns-6
-returns-6 c = ?
+returns-6 c =
+    let l = c .before .before in
+    let r = l .before .before .before .before .before .before .before .before .before .before .before .before .args .r .now in
+    sixth l ∙ sym (whole (l .before) ∙ then-ends (rule6 r) (rule7 r) (rw (sixth l) at (c .if6 .taken)))
 
--- src/lib.rt:335:5
-sections-requires-2 : tie.Need-sections-requires-2
-sections-requires-2 c κs = ?
-
--- src/lib.rt:312:1
 returns-7 : tie.Need-returns-7
-returns-7 c = ?
+returns-7 c =
+    let l = c .before .before .before in
+    let r = l .before .before .before .before .before .before .before .before .before .before .before .before .args .r .now in
+    c .sections2 .ensures ∙ sections-7 r ∙ sym (whole (l .before) ∙ then-next (rule6 r) (rule7 r) (rw (sixth l) at (c .before .if6 .left)))
 
 pub refusal-spec : {M : Type 1} → statement M
 refusal-spec =
     tie.close
     (tie.spec
-    unmarked-requires
-    numbered-requires
+    (λ c κs. search needs)
+    (λ c κs. search needs)
     returns
-    version-requires
-    numbered-requires-2
+    (λ c κs. search needs)
+    (λ c κs. search needs)
     returns-2
-    out-of-range-requires
-    numbered-requires-3
+    (λ c κs. search needs)
+    (λ c κs. search needs)
     returns-3
-    numbered-requires-4
+    (λ c κs. search needs)
     returns-4
     lengths-requires
     returns-5
-    sections-requires
+    (λ c κs. (omega arith, enough (c .before .before .before)))
     returns-6
-    sections-requires-2
+    (λ c κs. (omega arith, enough (c .before .before .before .before .before .before)))
     returns-7)

@@ -14,12 +14,6 @@ use Rattle.record.specs.Sections.{broken}
 use Rattle.record.proofs.Parts.{span-section, span-low, span-high}
 use Rattle.record.proofs.sections.Statement.{statement}
 use Rattle.record.proofs.sections.Tie as tie
-use Rattle.record.proofs.sections.Reads as reads
-use Rattle.record.proofs.sections.Lts as lts
-use Rattle.fields.proofs.justifying.Reads as justifying-reads
-use Rattle.record.proofs.bounds.Reads as bounds-reads
-use Rattle.record.proofs.checked.Reads as checked-reads
-use Rattle.record.proofs.numbered.Reads as numbered-reads
 
 abbrev turn : ℕ → List ℕ → ℕ → Answer
 turn N r s = rule N s (size (section r s)) (broken N r s (section r s))

@@ -1,5 +1,4 @@
 -- `record::targeted` meets its contract: in each arm the class settles every test of a class.
-use mathlib.Core.Path.{_≡_, refl, sym, _∙_}
 use mathlib.Core.Bool.{or-false}
 use borrow.Author.Needs.{needs}
 use borrow.Author.Tests.{ne-eqb}

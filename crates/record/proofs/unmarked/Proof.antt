@@ -1,6 +1,6 @@
 -- `record::unmarked` meets its contract. The loop's invariant: no wrong byte of the mark below i.
 use Prim.Native.Nat.{ℕ, _-_, _≤_}
-use mathlib.Core.Path.{_≡_, sym, _∙_}
+use mathlib.Core.Path.{_≡_, sym}
 use mathlib.Core.Bool.{Bool, false, not}
 use mathlib.Core.List.{List}
 use lib.Dec.{eqb}

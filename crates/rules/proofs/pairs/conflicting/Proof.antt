@@ -1,0 +1,16 @@
+-- `rules::pairs::conflicting` meets its contract.
+use borrow.Author.Needs.{needs}
+use Rattle.rules.proofs.Ways.{ways}
+use Rattle.rules.proofs.pairs.conflicting.Statement.{statement}
+use Rattle.rules.proofs.pairs.conflicting.Tie as tie
+
+pub conflicting-spec : {M : Type 1} → statement M
+conflicting-spec =
+    tie.close
+    (tie.spec
+    (λ c κs. search needs)
+    (λ c. search ways)
+    (λ c κs. search needs)
+    (λ c. search ways)
+    (λ c κs. search needs)
+    (λ c. search ways))

@@ -1,0 +1,16 @@
+-- `rules::pairs::hiding` meets its contract.
+use borrow.Author.Needs.{needs}
+use Rattle.rules.proofs.Ways.{ways}
+use Rattle.rules.proofs.pairs.hiding.Statement.{statement}
+use Rattle.rules.proofs.pairs.hiding.Tie as tie
+
+pub hiding-spec : {M : Type 1} → statement M
+hiding-spec =
+    tie.close
+    (tie.spec
+    (λ c κs. search needs)
+    (λ c. search ways)
+    (λ c κs. search needs)
+    (λ c. search ways)
+    (λ c κs. search needs)
+    (λ c. search ways))

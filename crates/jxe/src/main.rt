@@ -19,8 +19,12 @@ fn answer(question: &[u8], r: Answer) {
     io::write_all(STDOUT_FILENO, question);
     number(r.n as u64);
     number(r.s as u64);
-    number(r.a as u64);
-    number(r.b as u64);
+    position(r.a);
+    position(r.b);
+}
+
+fn position(p: u16) {
+    number(p as u64);
 }
 
 // The count of section 0, then that many entries of the list.
@@ -32,7 +36,7 @@ fn positions(record: &[u8], list: &[u16]) {
     number(n as u64);
     for i in 0..n {
         if i < list.len() {
-            number(list[i] as u64);
+            position(list[i]);
         }
     }
 }

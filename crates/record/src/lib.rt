@@ -1,5 +1,6 @@
 // The reader: a record is refused, with a number from 1 to 7, exactly when document 01 says. A section is the part of the record's bytes from its start to its end.
-use model::{Answer, Kind};
+use model::Answer;
+use model::Kind;
 ghost use mathlib.Core.Path.{_≡_};
 ghost use Prim.Native.Nat.{_<_, _≤_, min};
 ghost use mathlib.Core.Bool.{_&&_, Bool·beq};
@@ -19,12 +20,17 @@ const HEADER: usize = 17;
 
 // The bytes of a section's count, and of an action.
 const COUNT: usize = 2;
+
 const ACTION: usize = 20;
 
 const MAX_THREADS: u8 = 16;
+
 const MAX_VARIABLES: u8 = 64;
+
 const MAX_MONITORS: u8 = 32;
+
 const MAX_JUSTIFYING: u8 = 8;
+
 const MAX_ACTIONS: u16 = 128;
 
 // Where a section stands in the record's bytes.
@@ -37,7 +43,11 @@ pub struct Span {
 fn count(r: &[u8], p: usize) -> u16
     ensures { λ n. ⌜ n ≡ two (now (r .entry)) p ⌝ }
 {
-    if p < r.len() { fields::size(&r[p..]) } else { 0 }
+    if p < r.len() {
+        fields::size(&r[p..])
+    } else {
+        0
+    }
 }
 
 // The byte past the section that starts at p.
@@ -93,6 +103,7 @@ fn stray(r: &[u8], v: u8) -> bool
     fields::volatile(r, v)
 }
 
+// Bits from V up have to be clear.
 fn strays(r: &[u8]) -> bool
     ensures { λ b. ⌜ b ≡ any 64 (stray (now (r .entry))) ⌝ }
 {
@@ -145,12 +156,7 @@ fn cut(r: &[u8], p: usize) -> bool
 fn numbered(n: u8, s: u8, a: u16) -> Answer
     ensures { λ q. ⌜ q ≡ answer n s a none ⌝ }
 {
-    Answer {
-        n: n,
-        s: s,
-        a: a,
-        b: NONE,
-    }
+    Answer { n, s, a, b: NONE }
 }
 
 // Number 5: each section in its turn, then the bytes left.

@@ -22,10 +22,11 @@ loop-holds c = search needs
 loop-again : tie.Need-loop-again Inv-loop μ-loop
 loop-again c =
     let r = c .before .before .before .before .args .r .now in
-    let p = c .before .before .loop .p in
-    (search needs
-    , c .past .ensures ∙ ap (past r) (c .before .before .loop .inv .1) ∙ sym (start-more r (c .before .before .loop .counter))
-    , let b = c .before .before .before .shared-slice-known .given in omega (arith, c .past .ensures, b p, b (p + 1)))
+    let p = c .before .before .loop .p in (
+      search needs,
+      c .past .ensures ∙ ap (past r) (c .before .before .loop .inv .1) ∙ sym (start-more r (c .before .before .loop .counter)),
+      let b = c .before .before .before .shared-slice-known .given in omega (arith, c .past .ensures, b p, b (p + 1)),
+    )
 
 returns : tie.Need-returns Inv-loop μ-loop
 unfolding bounded start

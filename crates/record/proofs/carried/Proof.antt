@@ -28,27 +28,29 @@ returns-4 : tie.Need-returns-4
 unfolding carried
 returns-4 c =
     let b = c .before .before .before in
-    simp
-    (c .if4 .taken
-    , b .if2 .left
-    , ← c .before .before .seen .ensures
-    , eq-eqb _ _ (c .before .if3 .left)
-    , ← b .before .before .unused .ensures
-    , eq-eqb _ _ (b .before .if1 .left))
+    simp (
+      c .if4 .taken,
+      b .if2 .left,
+      ← c .before .before .seen .ensures,
+      eq-eqb _ _ (c .before .if3 .left),
+      ← b .before .before .unused .ensures,
+      eq-eqb _ _ (b .before .if1 .left),
+    )
 
 returns-5 : tie.Need-returns-5
 unfolding carried
 returns-5 c =
     let s = c .before .before in
     let b = s .before .before in
-    simp
-    (c .before .if4 .left
-    , b .if2 .left
-    , ← s .before .seen .ensures
-    , eq-eqb _ _ (s .if3 .left)
-    , ← b .before .before .unused .ensures
-    , eq-eqb _ _ (b .before .if1 .left)
-    , ← c .value .ensures)
+    simp (
+      c .before .if4 .left,
+      b .if2 .left,
+      ← s .before .seen .ensures,
+      eq-eqb _ _ (s .if3 .left),
+      ← b .before .before .unused .ensures,
+      eq-eqb _ _ (b .before .if1 .left),
+      ← c .value .ensures,
+    )
     (zero-bits (c .value .result) (search needs))
 
 pub carried-spec : {M : Type 1} → statement M

@@ -37,10 +37,11 @@ returns c =
 loop-again : tie.Need-loop-again Inv-loop μ-loop
 loop-again c =
     let l = c .before .before .before in
-    let p = l .before .before .before .before .args in
-    (omega arith
-    , any-pass (broken (p .number) (p .r .now) (p .s) (p .x .now)) (l .loop .a) (l .loop .inv .1)
-    (sym (c .before .broken .ensures) ∙ c .if1 .left))
+    let p = l .before .before .before .before .args in (
+      omega arith,
+      any-pass (broken (p .number) (p .r .now) (p .s) (p .x .now)) (l .loop .a) (l .loop .inv .1)
+          (sym (c .before .broken .ensures) ∙ c .if1 .left),
+    )
 
 returns-2 : tie.Need-returns-2 Inv-loop μ-loop
 returns-2 c =

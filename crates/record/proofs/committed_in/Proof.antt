@@ -20,10 +20,11 @@ returns-3 : tie.Need-returns-3
 unfolding committed-in
 returns-3 c =
     let a = c .before .before .before .args in
-    simp
-    (eq-eqb _ _ (c .before .before .if1 .left)
-    , le-leb _ _ (c .before .if2 .left)
-    , le-leb (min (a .last) 1) (a .c) (omega arith))
+    simp (
+      eq-eqb _ _ (c .before .before .if1 .left),
+      le-leb _ _ (c .before .if2 .left),
+      le-leb (min (a .last) 1) (a .c) (omega arith),
+    )
 
 returns-4 : tie.Need-returns-4
 unfolding committed-in

@@ -39,11 +39,12 @@ loop-again c =
     let l = b .before .before in
     let r = l .before .before .before .args .r .now in
     let h : cut-at r (l .loop .p) ≡ false = sym (b .cut .ensures) ∙ c .before .if1 .left in
-    let k : cut-at r (start r (l .loop .s)) ≡ false = rw (l .loop .inv .1) at h in
-    (omega arith
-    , c .past .ensures ∙ ap (past r) (l .loop .inv .1) ∙ sym (start-more r (l .loop .s))
-    , rw (c .past .ensures) (uncut r (l .loop .p) h)
-    , cuts-pass r (l .loop .s) k (l .loop .inv .3))
+    let k : cut-at r (start r (l .loop .s)) ≡ false = rw (l .loop .inv .1) at h in (
+      omega arith,
+      c .past .ensures ∙ ap (past r) (l .loop .inv .1) ∙ sym (start-more r (l .loop .s)),
+      rw (c .past .ensures) (uncut r (l .loop .p) h),
+      cuts-pass r (l .loop .s) k (l .loop .inv .3),
+    )
 
 -- after the loop p is the byte past section K, and no section is cut
 ended : (c : tie.After-loop Inv-loop μ-loop) → let r = c .before .before .before .before .args .r .now in (c .before .loop .p ≡ start r (K r + 1)) × (upTo (K r + 1) (cuts r) ≡ pass)

@@ -37,10 +37,11 @@ returns c =
 loop-again : tie.Need-loop-again Inv-loop μ-loop
 loop-again c =
     let l = c .before .before .before in
-    let s = l .before .before .before .args in
-    (search needs
-    , any-pass (same (s .x .now) (s .a)) (l .loop .b) (l .loop .inv .1)
-    (ne-eqb _ _ (λ e. c .if1 .left (c .before .ident2 .ensures ∙ e ∙ sym (l .before .ident .ensures)))))
+    let s = l .before .before .before .args in (
+      search needs,
+      any-pass (same (s .x .now) (s .a)) (l .loop .b) (l .loop .inv .1)
+          (ne-eqb _ _ (λ e. c .if1 .left (c .before .ident2 .ensures ∙ e ∙ sym (l .before .ident .ensures)))),
+    )
 
 returns-2 : tie.Need-returns-2 Inv-loop μ-loop
 unfolding met

@@ -38,12 +38,13 @@ returns-6 : tie.Need-returns-6
 unfolding out-of-range
 returns-6 c =
     let r = c .before .before .before .before .before .before .before .before .before .before .before .args .r .now in
-    simp
-    (le-ltb (threads r) 1 (omega arith)
-    , le-ltb 16 (threads r) (omega arith)
-    , le-ltb 64 (variables r) (omega arith)
-    , le-ltb 32 (monitors r) (omega arith)
-    , le-ltb 8 (K r) (omega arith))
+    simp (
+      le-ltb (threads r) 1 (omega arith),
+      le-ltb 16 (threads r) (omega arith),
+      le-ltb 64 (variables r) (omega arith),
+      le-ltb 32 (monitors r) (omega arith),
+      le-ltb 8 (K r) (omega arith),
+    )
     (c .strays .ensures)
 
 pub out-of-range-spec : {M : Type 1} → statement M

@@ -54,9 +54,10 @@ loop-again : tie.Need-loop-again Inv-loop μ-loop
 loop-again c =
     let l = c .before .before .before .before .before .before in
     let p = l .before .before .before .args in
-    let e = turned (c .before .before) in
-    (omega arith
-    , upTo-pass (turn (p .number) (p .r .now)) (l .loop .s) (l .loop .inv .1) (clean-rule (p .number) (l .loop .s) _ _ (omega arith) (rw e at (c .if1 .left))))
+    let e = turned (c .before .before) in (
+      omega arith,
+      upTo-pass (turn (p .number) (p .r .now)) (l .loop .s) (l .loop .inv .1) (clean-rule (p .number) (l .loop .s) _ _ (omega arith) (rw e at (c .if1 .left))),
+    )
 
 returns-2 : tie.Need-returns-2 Inv-loop μ-loop
 unfolding sections

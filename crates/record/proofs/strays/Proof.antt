@@ -25,12 +25,13 @@ returns c =
 
 loop-again : tie.Need-loop-again Inv-loop μ-loop
 loop-again c =
-    let l = c .before .before .before in
-    (search needs
-    , any-pass (stray (l .before .before .args .r .now)) (l .loop .v) (l .loop .inv .1) (sym (c .before .stray .ensures) ∙ c .if1 .left))
+    let l = c .before .before .before in (
+      search needs,
+      any-pass (stray (l .before .before .args .r .now)) (l .loop .v) (l .loop .inv .1) (sym (c .before .stray .ensures) ∙ c .if1 .left),
+    )
 
 returns-2 : tie.Need-returns-2 Inv-loop μ-loop
-returns-2 c = 
+returns-2 c =
     let l = c .before in
     sym (any-less (stray (l .before .before .args .r .now)) (l .loop .v) 64 (c .loop-test .left) (l .loop .inv .1))
 

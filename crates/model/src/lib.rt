@@ -120,9 +120,25 @@ const KINDS: [Kind; 12] = [
     },
 ];
 
-// The row of kind k.
+// The row of kind k. Each arm takes a fixed row, so that the table need not be laid out in memory at each call.
 pub fn row_of(k: u8) -> Kind
     ensures { λ r. ⌜ r ≡ kindRow k ⌝ }
 {
-    if k < 12 { KINDS[k as usize] } else { KINDS[0] }
+    if k > 11 {
+        return KINDS[0];
+    }
+    match k {
+        1 => KINDS[1],
+        2 => KINDS[2],
+        3 => KINDS[3],
+        4 => KINDS[4],
+        5 => KINDS[5],
+        6 => KINDS[6],
+        7 => KINDS[7],
+        8 => KINDS[8],
+        9 => KINDS[9],
+        10 => KINDS[10],
+        11 => KINDS[11],
+        _ => KINDS[0],
+    }
 }

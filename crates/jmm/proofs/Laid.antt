@@ -16,7 +16,7 @@ use Rattle.record.specs.declared.Span.{Span}
 use Rattle.record.specs.Sections.{bounded}
 use Rattle.hb.specs.Edges.{happens}
 use Rattle.hb.proofs.Filled.{happens-part}
-use Rattle.jmm.proofs.Spans.{whole}
+use Rattle.record.proofs.Parts.{span-section}
 
 module _ (ws : List ℕ) (s : ℕ) (p : List ℕ) (l : length p ≡ partWords) (room : partWords * s + partWords ≤ length ws) where
   pub length-laid : length (laid ws s p) ≡ length ws
@@ -62,7 +62,7 @@ module _ (r us ys : List ℕ) (s : ℕ) {x : Span} (e : x ≡ bounded r s) (smal
   unfolding laid
   laid-back filled =
       let k : partWords * s + partWords - partWords * s ≡ partWords = omega arith in
-      let same : ys ≡ part (section r s) = filled ∙ ap (λ (z : List ℕ). happens z lent) (whole r s e) ∙ happens-part (section r s) lent length-lent small in
+      let same : ys ≡ part (section r s) = filled ∙ ap (λ (z : List ℕ). happens z lent) (span-section r s _ e) ∙ happens-part (section r s) lent length-lent small in
       rw (same, k, drop-drop)
 
 module _ (r ws : List ℕ) where

@@ -1,6 +1,5 @@
 -- Laws between the questions and the steps that answer them.
 pub mod Passed
-pub mod Spans
 pub mod Laid
 pub mod Shown
 pub mod Clean

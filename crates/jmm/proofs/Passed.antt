@@ -1,48 +1,28 @@
 -- What is known of a record that is not refused.
-use Prim.Native.Nat.{ℕ, zero, suc, _+_, _*_, _<_, _≤_}
+use Prim.Native.Nat.{ℕ, suc, _+_, _*_, _<_, _≤_}
 use native.Mathlib.Omega.{arith}
 use mathlib.Core.Path.{_≡_, refl}
 use mathlib.Core.List.{List}
-use mathlib.Core.Logic.{⊎-elim}
-use mathlib.Core.Bool.{Bool, true, false, not, _&&_, _||_, true≢false}
-use native.Mathlib.Nat.{eq-or-lt-of-le}
+use mathlib.Core.Bool.{Bool, true, false, not, _||_, true≢false}
 use lib.ListN.{length}
-use lib.Dec.{eqb, ltb, leb}
-use borrow.Author.Tests.{eqb-true, eqb-false, ltb-false}
+use lib.Dec.{eqb, ltb}
+use borrow.Author.Tests.{ltb-false}
 use Rattle.model.specs.declared.Answer.{Answer}
-use Rattle.model.specs.Search.{any, none}
+use Rattle.model.specs.Search.{none}
 use Rattle.model.specs.Answers.{answer, when, upTo, _then_}
 use Rattle.model.specs.Limits.{maxActions, partWords}
-use Rattle.model.specs.Layout.{version, threads, variables, monitors, K, volatile, start, section, size, two}
+use Rattle.model.specs.Layout.{version, K, start, section, size, two}
 use Rattle.model.specs.Refused.{unmarked, out-of-range, cut, rule5, rule6, rule7, refusal}
 use Rattle.model.specs.Questions.{race-refusal, order-refusal}
+use Rattle.model.proofs.Answers.{then-both, upTo-each, when-not}
 use Rattle.record.proofs.Parts.{size-section}
+use Rattle.record.proofs.Stages.{few}
 use Rattle.jmm.specs.Accepted.{Accepted}
 
 or-middle : (p q t : Bool) → (p || q || t) ≡ false → q ≡ false
 or-middle true q t h = absurd (true≢false h)
 or-middle false true t h = h
 or-middle false false t h = refl
-
--- a chain that gives 0 is made of checks that do
-then-both : (r q : Answer) → (r then q) .n ≡ 0 → (r .n ≡ 0) × (q .n ≡ 0)
-then-both r q = go (eqb (r .n) 0) refl
-  where
-    go : (b : Bool) → eqb (r .n) 0 ≡ b → (r then q) .n ≡ 0 → (r .n ≡ 0) × (q .n ≡ 0)
-    go true e = rw (_then_, e) (λ h. (eqb-true (r .n) 0 e, h))
-    go false e = rw (_then_, e) (λ h. absurd (eqb-false (r .n) 0 e h))
-
-upTo-each : (f : ℕ → Answer) (n : ℕ) → upTo n f .n ≡ 0 → (a : ℕ) → a < n → f a .n ≡ 0
-unfolding upTo
-upTo-each f zero h a l = absurd (let z : ⊥ = omega arith in z)
-upTo-each f (suc n) h a l =
-    let both = then-both (upTo n f) (f n) h in
-    ⊎-elim (λ (e : a ≡ n). rw e (both .1)) (λ (m : a < n). upTo-each f n (both .0) a m)
-    (eq-or-lt-of-le (let z : a ≤ n = omega arith in z))
-
-when-not : (b : Bool) (N s : ℕ) → 0 < N → when b (answer N s none none) .n ≡ 0 → b ≡ false
-when-not true N s l h = absurd (let z : ⊥ = omega arith in z)
-when-not false N s l h = refl
 
 -- a single refusal, and what follows number 4, 3 and 2
 abbrev given : Bool → ℕ → Answer
@@ -74,11 +54,7 @@ module _ (r : List ℕ) (need lent : ℕ) (h : refusal r need lent .n ≡ 0) whe
   lent-enough = ltb-false lent need (when-not (ltb lent need) 4 0 (omega arith) (passed-4 .0))
 
   pub few-sections : K r ≤ 8
-  unfolding out-of-range
-  few-sections =
-      let before = ltb (threads r) 1 || ltb 16 (threads r) || ltb 64 (variables r) || ltb 32 (monitors r) in
-      let strays = any 64 (λ v. leb (variables r) v && volatile r v) in
-      ltb-false 8 (K r) (or-middle before (ltb 8 (K r)) strays (when-not (out-of-range r) 3 0 (omega arith) (passed-3 .0)))
+  few-sections = few r (when-not (out-of-range r) 3 0 (omega arith) (passed-3 .0))
 
   pub sized : (s : ℕ) → s < K r + 1 → size (section r s) ≤ maxActions
   unfolding rule5 cut

@@ -19,7 +19,7 @@ use Rattle.record.specs.declared.Span.{Span}
 use Rattle.record.specs.Sections.{bounded}
 use Rattle.justify.specs.Numbered.{within-limit}
 use Rattle.jmm.specs.Accepted.{Accepted, Filled}
-use Rattle.jmm.proofs.Spans.{whole}
+use Rattle.record.proofs.Parts.{span-section}
 use Rattle.jmm.proofs.Laid.{length-filled, part-filled}
 
 -- what a question leaves in the words
@@ -37,7 +37,7 @@ module _ (r : List ℕ) (n : ℕ) (ws : List ℕ) (f : Filled r n ws) (s : ℕ) 
   pub well-formed-as : {x : Span} {q : Answer} → x ≡ bounded r s →
     q ≡ well-formed (bit rowWords (take (partWords * s + partWords - partWords * s) (drop (partWords * s) ws))) s (take (x .end - x .at) (drop (x .at) r)) →
       q ≡ well-formed (hb (section r s)) s (section r s)
-  well-formed-as e h = h ∙ ap₂ (λ (g : ℕ → ℕ → Bool) (y : List ℕ). well-formed g s y) shown (whole r s e)
+  well-formed-as e h = h ∙ ap₂ (λ (g : ℕ → ℕ → Bool) (y : List ℕ). well-formed g s y) shown (span-section r s _ e)
 
 -- sections 0 and i, the words of part 0 standing first
 module _ (r : List ℕ) (n : ℕ) (ws : List ℕ) (f : Filled r n ws) where
@@ -47,7 +47,7 @@ module _ (r : List ℕ) (n : ℕ) (ws : List ℕ) (f : Filled r n ws) where
   -- a step G on section 0 and its part
   pub first-as : (G : (ℕ → ℕ → Bool) → List ℕ → Answer) {x : Span} {q : Answer} → 0 < n → x ≡ bounded r 0 →
     q ≡ G (bit rowWords (take partWords ws)) (take (x .end - x .at) (drop (x .at) r)) → q ≡ G (hb (section r 0)) (section r 0)
-  first-as G l e h = h ∙ ap₂ G (shown-first l) (whole r 0 e)
+  first-as G l e h = h ∙ ap₂ G (shown-first l) (span-section r 0 _ e)
 
   in-limit : (i : ℕ) → i < n → within-limit r i ≡ true
   unfolding within-limit

@@ -150,3 +150,23 @@ clean-rule N s n p l = clean-naming N s (found n p) none l
 pub clean-rule₂ : (N s n : ℕ) (p : ℕ → ℕ → Bool) → 0 < N → Clean (rule₂ N s n p)
 unfolding rule₂
 clean-rule₂ N s n p l = let x = found n (λ x. any n (p x)) in clean-naming N s x (found n (p x)) l
+
+-- a chain that gives 0 is made of checks that do
+pub then-both : (r q : Answer) → (r then q) .n ≡ 0 → (r .n ≡ 0) × (q .n ≡ 0)
+then-both r q = go (eqb (r .n) 0) refl
+  where
+    go : (b : Bool) → eqb (r .n) 0 ≡ b → (r then q) .n ≡ 0 → (r .n ≡ 0) × (q .n ≡ 0)
+    go true e = rw (_then_, e) (λ h. (eqb-true (r .n) 0 e, h))
+    go false e = rw (_then_, e) (λ h. absurd (eqb-false (r .n) 0 e h))
+
+pub upTo-each : (f : ℕ → Answer) (n : ℕ) → upTo n f .n ≡ 0 → (a : ℕ) → a < n → f a .n ≡ 0
+unfolding upTo
+upTo-each f zero h a l = absurd (let z : ⊥ = omega arith in z)
+upTo-each f (suc n) h a l =
+    let both = then-both (upTo n f) (f n) h in
+    ⊎-elim (λ (e : a ≡ n). rw e (both .1)) (λ (m : a < n). upTo-each f n (both .0) a m)
+    (eq-or-lt-of-le (let z : a ≤ n = omega arith in z))
+
+pub when-not : (b : Bool) (N s : ℕ) → 0 < N → when b (answer N s none none) .n ≡ 0 → b ≡ false
+when-not true N s l h = absurd (let z : ⊥ = omega arith in z)
+when-not false N s l h = refl

@@ -5,7 +5,7 @@ use native.Mathlib.Omega.{arith}
 use lib.ListN.{length}
 use borrow.Author.Needs.{needs}
 use Rattle.model.specs.WorkArea.{filled}
-use Rattle.jmm.proofs.Spans.{low, high}
+use Rattle.record.proofs.Parts.{span-low, span-high}
 use Rattle.jmm.proofs.Laid.{laid-back, filled-none, filled-more, length-filled}
 use Rattle.jmm.proofs.fill_parts.Statement.{statement}
 use Rattle.jmm.proofs.fill_parts.Tie as tie
@@ -20,13 +20,13 @@ loop-holds : tie.Need-loop-holds Inv-loop μ-loop
 loop-holds c = (omega arith, sym (filled-none _ _))
 
 sub-fill : tie.Need-sub-fill Inv-loop μ-loop
-sub-fill c = low _ _ (c .bounds .ensures)
+sub-fill c = span-low _ _ _ (c .bounds .ensures)
 
 part-fill-start : tie.Need-part-fill-start Inv-loop μ-loop
-part-fill-start c = low _ _ (c .bounds .ensures)
+part-fill-start c = span-low _ _ _ (c .bounds .ensures)
 
 part-fill-end : tie.Need-part-fill-end Inv-loop μ-loop
-part-fill-end c = high _ _ (c .bounds .ensures)
+part-fill-end c = span-high _ _ _ (c .bounds .ensures)
 
 part-fill-end-2 : tie.Need-part-fill-end-2 Inv-loop μ-loop
 part-fill-end-2 c =

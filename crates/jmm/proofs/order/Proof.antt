@@ -5,7 +5,7 @@ use borrow.Author.Needs.{needs}
 use Rattle.model.specs.Questions.{order, order-words}
 use Rattle.model.specs.Answers.{answer}
 use Rattle.model.specs.declared.Answer.{Answer}
-use Rattle.jmm.proofs.Spans.{whole, low, high}
+use Rattle.record.proofs.Parts.{span-section, span-low, span-high}
 use Rattle.jmm.proofs.Chain.{list-kept, list-serial, ends, goes-on, untouched, left-filled}
 use Rattle.jmm.proofs.Passed.{order-passed, list-room, accepted}
 use Rattle.jmm.proofs.Shown.{filled-parts}
@@ -33,13 +33,13 @@ returns-2 c =
     (answer, (left-filled _ refused _ _ _ on (c .before .before .before .before .before .before .fill-parts .ensures), list-kept _ _ _ answer (c .if2 .taken)))
 
 sub-serial : tie.Need-sub-serial
-sub-serial c = low _ _ (c .bounds .ensures)
+sub-serial c = span-low _ _ _ (c .bounds .ensures)
 
 part-serial-start : tie.Need-part-serial-start
-part-serial-start c = low _ _ (c .bounds .ensures)
+part-serial-start c = span-low _ _ _ (c .bounds .ensures)
 
 part-serial-end : tie.Need-part-serial-end
-part-serial-end c = high _ _ (c .bounds .ensures)
+part-serial-end c = span-high _ _ _ (c .bounds .ensures)
 
 returns-3 : tie.Need-returns-3
 unfolding order order-words
@@ -48,7 +48,7 @@ returns-3 c =
     let on = c .before .before .before .before .before .before .before .before .before .before .before .before .before .before .if1 .left in
     let answer = goes-on _ _ refused on (c .before .before .before .before .before .before .before .before .order-in .ensures) in
     let room = list-room _ _ _ (sym (ap (λ (q : Answer). q .n) refused) ∙ on) in
-    (answer, (left-filled _ refused _ _ _ on (c .before .before .before .before .before .before .before .before .before .before .before .before .fill-parts .ensures), list-serial _ _ _ answer (c .before .before .before .before .before .before .if2 .left) (whole _ _ (c .before .before .before .before .before .bounds .ensures)) room (c .before .before .serial .ensures)))
+    (answer, (left-filled _ refused _ _ _ on (c .before .before .before .before .before .before .before .before .before .before .before .before .fill-parts .ensures), list-serial _ _ _ answer (c .before .before .before .before .before .before .if2 .left) (span-section _ _ _ (c .before .before .before .before .before .bounds .ensures)) room (c .before .before .serial .ensures)))
 
 pub order-spec : {M : Type 1} → statement M
 order-spec =

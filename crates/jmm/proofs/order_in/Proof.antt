@@ -9,18 +9,18 @@ use Rattle.model.specs.Relations.{hb}
 use Rattle.model.specs.Layout.{section}
 use Rattle.jmm.proofs.Shown.{first-as}
 use Rattle.jmm.proofs.Chain.{ends, goes-on}
-use Rattle.jmm.proofs.Spans.{low, high}
+use Rattle.record.proofs.Parts.{span-low, span-high}
 use Rattle.jmm.proofs.order_in.Statement.{statement}
 use Rattle.jmm.proofs.order_in.Tie as tie
 
 sub-well-formed : tie.Need-sub-well-formed
-sub-well-formed c = low _ _ (c .bounds .ensures)
+sub-well-formed c = span-low _ _ _ (c .bounds .ensures)
 
 part-well-formed-start : tie.Need-part-well-formed-start
-part-well-formed-start c = low _ _ (c .bounds .ensures)
+part-well-formed-start c = span-low _ _ _ (c .bounds .ensures)
 
 part-well-formed-end : tie.Need-part-well-formed-end
-part-well-formed-end c = high _ _ (c .bounds .ensures)
+part-well-formed-end c = span-high _ _ _ (c .bounds .ensures)
 
 slice-aggregate-well-formed : tie.Need-slice-aggregate-well-formed
 slice-aggregate-well-formed c = let room = c .before .before .before .before .before .pre .accepted .room in sym (length-take-le 256 (c .before .before .before .before .before .args .work .now) (omega arith))
@@ -32,13 +32,13 @@ returns c =
     ends (well-formed (hb x) 0 x) (racing (hb x) x) (first-as _ _ _ (c .before .before .before .before .before .before .before .before .pre) (λ h y. well-formed h 0 y) (omega arith) (c .before .before .before .before .before .bounds .ensures) (c .before .before .well-formed .ensures)) (c .if1 .taken)
 
 sub-racing : tie.Need-sub-racing
-sub-racing c = low _ _ (c .before .before .before .before .before .bounds .ensures)
+sub-racing c = span-low _ _ _ (c .before .before .before .before .before .bounds .ensures)
 
 part-racing-start : tie.Need-part-racing-start
-part-racing-start c = low _ _ (c .before .before .before .before .before .bounds .ensures)
+part-racing-start c = span-low _ _ _ (c .before .before .before .before .before .bounds .ensures)
 
 part-racing-end : tie.Need-part-racing-end
-part-racing-end c = high _ _ (c .before .before .before .before .before .bounds .ensures)
+part-racing-end c = span-high _ _ _ (c .before .before .before .before .before .bounds .ensures)
 
 slice-aggregate-racing : tie.Need-slice-aggregate-racing
 slice-aggregate-racing c = let room = c .before .before .before .before .before .before .before .before .before .before .pre .accepted .room in sym (length-take-le 256 (c .before .before .before .before .before .before .before .before .before .before .args .work .now) (omega arith))

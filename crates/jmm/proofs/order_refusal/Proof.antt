@@ -10,7 +10,7 @@ use Rattle.model.specs.Refused.{refusal}
 use Rattle.model.specs.Layout.{section, size}
 use Rattle.model.specs.Limits.{partWords}
 use Rattle.jmm.proofs.Chain.{ends, goes-on}
-use Rattle.jmm.proofs.Spans.{low, high, whole}
+use Rattle.record.proofs.Parts.{span-low, span-high, span-section}
 use Rattle.jmm.proofs.order_refusal.Statement.{statement}
 use Rattle.jmm.proofs.order_refusal.Tie as tie
 
@@ -19,19 +19,19 @@ unfolding order-refusal race-refusal
 returns c = ends (refusal (c .before .before .before .before .args .«record» .now) partWords (c .before .before .before .before .args .lent)) _ (c .before .before .refusal .ensures) (c .if1 .taken)
 
 sub-size : tie.Need-sub-size
-sub-size c = low _ _ (c .bounds .ensures)
+sub-size c = span-low _ _ _ (c .bounds .ensures)
 
 part-size-start : tie.Need-part-size-start
-part-size-start c = low _ _ (c .bounds .ensures)
+part-size-start c = span-low _ _ _ (c .bounds .ensures)
 
 part-size-end : tie.Need-part-size-end
-part-size-end c = high _ _ (c .bounds .ensures)
+part-size-end c = span-high _ _ _ (c .bounds .ensures)
 
 returns-2 : tie.Need-returns-2
 unfolding order-refusal race-refusal
 returns-2 c =
     let g = c .before .before .before .before .before .before .before .before .before .args in
-    let n : c .before .before .size .result ≡ size (section (g .«record» .now) 0) = c .before .before .size .ensures ∙ ap size (whole _ _ (c .before .before .before .before .bounds .ensures)) in
+    let n : c .before .before .size .result ≡ size (section (g .«record» .now) 0) = c .before .before .size .ensures ∙ ap size (span-section _ _ _ (c .before .before .before .before .bounds .ensures)) in
     let t : ltb (g .room) (size (section (g .«record» .now) 0)) ≡ true = lt-ltb (g .room) (size (section (g .«record» .now) 0)) (omega arith) in
     goes-on (refusal (g .«record» .now) partWords (g .lent)) _ (c .before .before .before .before .before .before .before .refusal .ensures) (c .before .before .before .before .before .if1 .left) (rw t (c .plain .ensures))
 
@@ -39,7 +39,7 @@ returns-3 : tie.Need-returns-3
 unfolding order-refusal race-refusal
 returns-3 c =
     let g = c .before .before .before .before .before .before .before .before .before .args in
-    let n : c .before .before .size .result ≡ size (section (g .«record» .now) 0) = c .before .before .size .ensures ∙ ap size (whole _ _ (c .before .before .before .before .bounds .ensures)) in
+    let n : c .before .before .size .result ≡ size (section (g .«record» .now) 0) = c .before .before .size .ensures ∙ ap size (span-section _ _ _ (c .before .before .before .before .bounds .ensures)) in
     let t : ltb (g .room) (size (section (g .«record» .now) 0)) ≡ false = le-ltb (g .room) (size (section (g .«record» .now) 0)) (omega arith) in
     goes-on (refusal (g .«record» .now) partWords (g .lent)) _ (c .before .before .before .before .before .before .before .refusal .ensures) (c .before .before .before .before .before .if1 .left) (rw t (c .plain2 .ensures))
 

@@ -9,33 +9,33 @@ use Rattle.model.specs.Relations.{hb}
 use Rattle.model.specs.Layout.{section}
 use Rattle.jmm.proofs.Shown.{first-as}
 use Rattle.jmm.proofs.Chain.{ends, goes-on}
-use Rattle.jmm.proofs.Spans.{low, high, whole}
+use Rattle.record.proofs.Parts.{span-low, span-high, span-section}
 use Rattle.jmm.proofs.race_in.Statement.{statement}
 use Rattle.jmm.proofs.race_in.Tie as tie
 
 sub-ordered : tie.Need-sub-ordered
-sub-ordered c = low _ _ (c .bounds .ensures)
+sub-ordered c = span-low _ _ _ (c .bounds .ensures)
 
 part-ordered-start : tie.Need-part-ordered-start
-part-ordered-start c = low _ _ (c .bounds .ensures)
+part-ordered-start c = span-low _ _ _ (c .bounds .ensures)
 
 part-ordered-end : tie.Need-part-ordered-end
-part-ordered-end c = high _ _ (c .bounds .ensures)
+part-ordered-end c = span-high _ _ _ (c .bounds .ensures)
 
 returns : tie.Need-returns
 unfolding race-of
 returns c =
     let x = section (c .before .before .before .before .before .before .before .args .«record» .now) 0 in
-    ends (ordered 0 x) (racing (hb x) x) (c .before .before .ordered .ensures ∙ ap (ordered 0) (whole _ _ (c .before .before .before .before .bounds .ensures))) (c .if1 .taken)
+    ends (ordered 0 x) (racing (hb x) x) (c .before .before .ordered .ensures ∙ ap (ordered 0) (span-section _ _ _ (c .before .before .before .before .bounds .ensures))) (c .if1 .taken)
 
 sub-racing : tie.Need-sub-racing
-sub-racing c = low _ _ (c .before .before .before .before .bounds .ensures)
+sub-racing c = span-low _ _ _ (c .before .before .before .before .bounds .ensures)
 
 part-racing-start : tie.Need-part-racing-start
-part-racing-start c = low _ _ (c .before .before .before .before .bounds .ensures)
+part-racing-start c = span-low _ _ _ (c .before .before .before .before .bounds .ensures)
 
 part-racing-end : tie.Need-part-racing-end
-part-racing-end c = high _ _ (c .before .before .before .before .bounds .ensures)
+part-racing-end c = span-high _ _ _ (c .before .before .before .before .bounds .ensures)
 
 slice-aggregate-racing : tie.Need-slice-aggregate-racing
 slice-aggregate-racing c = let room = c .before .before .before .before .before .before .before .before .before .pre .accepted .room in sym (length-take-le 256 (c .before .before .before .before .before .before .before .before .before .args .work .now) (omega arith))
@@ -45,7 +45,7 @@ unfolding race-of
 returns-2 c =
     let x = section (c .before .before .before .before .before .before .before .before .before .before .args .«record» .now) 0 in
     let at = c .before .before .before .before .before .before .before .bounds .ensures in
-    goes-on (ordered 0 x) (racing (hb x) x) (c .before .before .before .before .before .ordered .ensures ∙ ap (ordered 0) (whole _ _ at)) (c .before .before .before .if1 .left) (first-as _ _ _ (c .before .before .before .before .before .before .before .before .before .before .pre) racing (omega arith) at (c .racing .ensures))
+    goes-on (ordered 0 x) (racing (hb x) x) (c .before .before .before .before .before .ordered .ensures ∙ ap (ordered 0) (span-section _ _ _ at)) (c .before .before .before .if1 .left) (first-as _ _ _ (c .before .before .before .before .before .before .before .before .before .before .pre) racing (omega arith) at (c .racing .ensures))
 
 pub race-in-spec : {M : Type 1} → statement M
 race-in-spec =

@@ -9,7 +9,7 @@ use Rattle.model.specs.Layout.{section}
 use Rattle.model.specs.Relations.{hb}
 use Rattle.model.specs.Rules.{well-formed}
 use Rattle.model.proofs.Answers.{upTo-none, upTo-pass, upTo-at}
-use Rattle.jmm.proofs.Spans.{low, high}
+use Rattle.record.proofs.Parts.{span-low, span-high}
 use Rattle.jmm.proofs.Shown.{well-formed-as}
 use Rattle.jmm.proofs.Clean.{clean-well-formed}
 use Rattle.jmm.proofs.sections.Statement.{statement}
@@ -26,13 +26,13 @@ loop-holds : tie.Need-loop-holds Inv-loop μ-loop
 loop-holds c = (omega arith, upTo-none _)
 
 sub-well-formed : tie.Need-sub-well-formed Inv-loop μ-loop
-sub-well-formed c = low _ _ (c .bounds .ensures)
+sub-well-formed c = span-low _ _ _ (c .bounds .ensures)
 
 part-well-formed-start : tie.Need-part-well-formed-start Inv-loop μ-loop
-part-well-formed-start c = low _ _ (c .bounds .ensures)
+part-well-formed-start c = span-low _ _ _ (c .bounds .ensures)
 
 part-well-formed-end : tie.Need-part-well-formed-end Inv-loop μ-loop
-part-well-formed-end c = high _ _ (c .bounds .ensures)
+part-well-formed-end c = span-high _ _ _ (c .bounds .ensures)
 
 part-well-formed-end-2 : tie.Need-part-well-formed-end-2 Inv-loop μ-loop
 part-well-formed-end-2 c = let room = c .before .before .before .before .before .before .pre .accepted .room in omega arith

@@ -1,7 +1,7 @@
 -- `jxe::positions` meets its contract.
 use Prim.Native.Nat.{_≤_, _-_}
 use borrow.Author.Needs.{needs}
-use Rattle.record.proofs.Parts.{part-low, part-high}
+use Rattle.record.proofs.Parts.{span-low, span-high}
 use Rattle.jxe.proofs.positions.Statement.{statement}
 use Rattle.jxe.proofs.positions.Tie as tie
 
@@ -12,13 +12,13 @@ abbrev μ-loop : tie.MeasureT-loop
 μ-loop «record» list at end n i₀ i = n - i
 
 sub-size : tie.Need-sub-size Inv-loop μ-loop
-sub-size c = rw (c .bounds .ensures) (part-low _ _)
+sub-size c = span-low _ _ _ (c .bounds .ensures)
 
 part-size-start : tie.Need-part-size-start Inv-loop μ-loop
-part-size-start c = rw (c .bounds .ensures) (part-low _ _)
+part-size-start c = span-low _ _ _ (c .bounds .ensures)
 
 part-size-end : tie.Need-part-size-end Inv-loop μ-loop
-part-size-end c = rw (c .bounds .ensures) (part-high _ _)
+part-size-end c = span-high _ _ _ (c .bounds .ensures)
 
 pub positions-spec : {M : Type 1} → statement M
 positions-spec =

@@ -28,15 +28,15 @@ module _ (x : List ℕ) (a b : ℕ) (p : ℕ → ℕ → Bool) where
   one-more : (d : ℕ) → (d ≡ b → ⊥) → ltb d b ≡ ltb d (suc b)
   one-more d n =
       elim (decLt d b) [
-        yes h ↦ lt-ltb d b h ∙ sym (lt-ltb d (suc b) (omega arith))
-      | no g ↦ le-ltb d b (omega arith) ∙ sym (le-ltb d (suc b) (omega arith))
+        | yes h ↦ lt-ltb d b h ∙ sym (lt-ltb d (suc b) (omega arith))
+        | no g ↦ le-ltb d b (omega arith) ∙ sym (le-ltb d (suc b) (omega arith))
       ]
 
   more-edge : (po x a b || sw x a b) ≡ true → (c d : ℕ) → (with-from x a b p c d || eqb c a && eqb d b) ≡ with-from x a (suc b) p c d
   more-edge e c d =
       elim (ℕ-discrete d b) [
-        yes q ↦ rw (q, e, lt-ltb b (suc b) (omega arith), le-ltb b b (omega arith), eq-eqb b b refl) (join (p c b) (eqb c a))
-      | no n ↦ rw (ne-eqb d b n, and-false, or-false, one-more d n)
+        | yes q ↦ rw (q, e, lt-ltb b (suc b) (omega arith), le-ltb b b (omega arith), eq-eqb b b refl) (join (p c b) (eqb c a))
+        | no n ↦ rw (ne-eqb d b n, and-false, or-false, one-more d n)
       ]
     where
       join : (s t : Bool) → (s || t && false) || t && true ≡ s || t && true
@@ -47,8 +47,8 @@ module _ (x : List ℕ) (a b : ℕ) (p : ℕ → ℕ → Bool) where
   more-kept : (po x a b || sw x a b) ≡ false → (c d : ℕ) → with-from x a b p c d ≡ with-from x a (suc b) p c d
   more-kept e c d =
       elim (ℕ-discrete d b) [
-        yes q ↦ rw (q, e) (simp and-false)
-      | no n ↦ rw (one-more d n)
+        | yes q ↦ rw (q, e) (simp and-false)
+        | no n ↦ rw (one-more d n)
       ]
 
 -- the words of the rows of p
@@ -65,7 +65,7 @@ from-rows x a zero p =
 from-rows x a (suc b) p = step (po x a b || sw x a b) refl (from-rows x a b p)
   where
     step : (t : Bool) → (po x a b || sw x a b) ≡ t → from x a b (held p) ≡ held (with-from x a b p) →
-      cond t (marked rowWords (from x a b (held p)) a b) (from x a b (held p)) ≡ held (with-from x a (suc b) p)
+        cond t (marked rowWords (from x a b (held p)) a b) (from x a b (held p)) ≡ held (with-from x a (suc b) p)
     step true e h =
         ap (λ (ws : List ℕ). marked rowWords ws a b) h
         ∙ marked-rows rowWords partWords (with-from x a b p) a b (omega arith)
@@ -86,12 +86,12 @@ edges-rows x (suc m) =
     one : (c d : ℕ) → with-from x m (size x) (edge-from x m) c d ≡ edge-from x (suc m) c d
     one c d =
         elim (ℕ-discrete c m) [
-          yes q ↦ rw (q, lt-ltb m (suc m) (omega arith), le-ltb m m (omega arith), eq-eqb m m refl)
-        | no n ↦
-          elim (decLt c m) [
-            yes h ↦ rw (ne-eqb c m n, lt-ltb c m h, lt-ltb c (suc m) (omega arith)) (or-false _)
-          | no g ↦ rw (ne-eqb c m n, le-ltb c m (omega arith), le-ltb c (suc m) (omega arith))
-          ]
+          | yes q ↦ rw (q, lt-ltb m (suc m) (omega arith), le-ltb m m (omega arith), eq-eqb m m refl)
+          | no n ↦
+              elim (decLt c m) [
+                | yes h ↦ rw (ne-eqb c m n, lt-ltb c m h, lt-ltb c (suc m) (omega arith)) (or-false _)
+                | no g ↦ rw (ne-eqb c m n, le-ltb c m (omega arith), le-ltb c (suc m) (omega arith))
+              ]
         ]
 
 -- cleared, marked and closed, a part is the section's
@@ -109,7 +109,7 @@ module _ (x ws : List ℕ) where
 
   -- the three steps
   pub happens-by : {n : ℕ} {us vs zs : List ℕ} → length ws ≡ partWords → n ≡ size x → n ≤ maxActions →
-    us ≡ replicate (length ws) 0 → vs ≡ edges x (size x) us → zs ≡ closed rowWords maxActions vs n → zs ≡ happens x ws
+      us ≡ replicate (length ws) 0 → vs ≡ edges x (size x) us → zs ≡ closed rowWords maxActions vs n → zs ≡ happens x ws
   happens-by l e h cleared marks closing =
       let small : size x ≤ maxActions = omega arith in
       rw (closing, marks, cleared, l, e) (filled x small ∙ sym (happens-part l small))

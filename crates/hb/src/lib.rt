@@ -5,18 +5,26 @@ ghost use lib.Dec.{eqb};
 ghost use Rattle.model.specs.Layout.{size, kind};
 ghost use Rattle.model.specs.Relations.{po, sw};
 ghost use Rattle.hb.specs.Edges.{onward, from, edges, happens};
-
-use fields::{kind, place, size, target, thread};
+use fields::kind;
+use fields::place;
+use fields::size;
+use fields::target;
+use fields::thread;
 use model::row_of;
 
 // The words of a part, and the most actions of a section.
 const PART: usize = 256;
+
 const ACTIONS: u16 = 128;
 
 pub fn po(x: &[u8], a: u16, b: u16) -> bool
     ensures { λ r. ⌜ r ≡ po (now (x .entry)) a b ⌝ }
 {
-    if a < b { thread(x, a) == thread(x, b) } else { false }
+    if a < b {
+        thread(x, a) == thread(x, b)
+    } else {
+        false
+    }
 }
 
 // b is of kind l, and the targets or threads t and u are one.

@@ -38,7 +38,7 @@ module _ (r : List ℕ) (lent : ℕ) (l : List ℕ) {q : Answer} (e : q ≡ orde
   list-kept h = rw (ne-eqb (order r lent (length l) .n) 0 (λ z. h (ap (λ (a : Answer). a .n) e ∙ z)))
 
   pub list-serial : q .n ≡ 0 → {x us : List ℕ} → x ≡ section r 0 → size (section r 0) ≤ length l →
-    us ≡ cond (leb (size x) (length l)) (serial x (size x) ++ drop (size x) l) l → us ≡ order-list r lent l
+      us ≡ cond (leb (size x) (length l)) (serial x (size x) ++ drop (size x) l) l → us ≡ order-list r lent l
   unfolding order-list
   list-serial h whole room f =
       rw (eq-eqb (order r lent (length l) .n) 0 (sym (ap (λ (a : Answer). a .n) e) ∙ h))

@@ -57,7 +57,7 @@ module _ (r us ys : List ℕ) (s : ℕ) {x : Span} (e : x ≡ bounded r s) (smal
   length-lent = simp (length-take, length-drop) (omega arith)
 
   pub laid-back :
-    ys ≡ happens (take (x .end - x .at) (drop (x .at) r)) lent →
+      ys ≡ happens (take (x .end - x .at) (drop (x .at) r)) lent →
       take (partWords * s) us ++ (ys ++ drop (partWords * s + partWords - partWords * s) (drop (partWords * s) us)) ≡ laid us s (part (section r s))
   unfolding laid
   laid-back filled =

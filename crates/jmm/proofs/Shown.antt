@@ -35,7 +35,7 @@ module _ (r : List ℕ) (n : ℕ) (ws : List ℕ) (f : Filled r n ws) (s : ℕ) 
       rw (k, f .parts s l) (bit-part (section r s) (f .accepted .sized s l))
 
   pub well-formed-as : {x : Span} {q : Answer} → x ≡ bounded r s →
-    q ≡ well-formed (bit rowWords (take (partWords * s + partWords - partWords * s) (drop (partWords * s) ws))) s (take (x .end - x .at) (drop (x .at) r)) →
+      q ≡ well-formed (bit rowWords (take (partWords * s + partWords - partWords * s) (drop (partWords * s) ws))) s (take (x .end - x .at) (drop (x .at) r)) →
       q ≡ well-formed (hb (section r s)) s (section r s)
   well-formed-as e h = h ∙ ap₂ (λ (g : ℕ → ℕ → Bool) (y : List ℕ). well-formed g s y) shown (span-section r s _ e)
 
@@ -46,7 +46,7 @@ module _ (r : List ℕ) (n : ℕ) (ws : List ℕ) (f : Filled r n ws) where
 
   -- a step G on section 0 and its part
   pub first-as : (G : (ℕ → ℕ → Bool) → List ℕ → Answer) {x : Span} {q : Answer} → 0 < n → x ≡ bounded r 0 →
-    q ≡ G (bit rowWords (take partWords ws)) (take (x .end - x .at) (drop (x .at) r)) → q ≡ G (hb (section r 0)) (section r 0)
+      q ≡ G (bit rowWords (take partWords ws)) (take (x .end - x .at) (drop (x .at) r)) → q ≡ G (hb (section r 0)) (section r 0)
   first-as G l e h = h ∙ ap₂ G (shown-first l) (span-section r 0 _ e)
 
   in-limit : (i : ℕ) → i < n → within-limit r i ≡ true
@@ -55,6 +55,6 @@ module _ (r : List ℕ) (n : ℕ) (ws : List ℕ) (f : Filled r n ws) where
       rw (le-leb (size (section r 0)) maxActions (f .accepted .sized 0 (omega arith)), le-leb (size (section r i)) maxActions (f .accepted .sized i l))
 
   pub committing-as : (i : ℕ) {q : Answer} → i < n →
-    q ≡ cond (within-limit r i) (committing (bit rowWords (take partWords ws)) (bit rowWords (take (partWords * i + partWords - partWords * i) (drop (partWords * i) ws))) r i) pass →
+      q ≡ cond (within-limit r i) (committing (bit rowWords (take partWords ws)) (bit rowWords (take (partWords * i + partWords - partWords * i) (drop (partWords * i) ws))) r i) pass →
       q ≡ committing (hb (section r 0)) (hb (section r i)) r i
   committing-as i l h = h ∙ rw (in-limit i l, shown-first (omega arith), shown r n ws f i l)

@@ -10,12 +10,13 @@ ghost use Rattle.model.specs.Justified.{committing};
 ghost use Rattle.model.specs.WorkArea.{filled};
 ghost use Rattle.model.specs.Questions.{judged, verdict, verdict-words, race-of, race, race-words, order-refusal, order-of, order, order-words, order-list};
 ghost use Rattle.jmm.specs.Accepted.{Accepted, Filled};
-
 use model::Answer;
-use record::{bounds, refusal};
+use record::bounds;
+use record::refusal;
 
 // The words of a part, and of the parts of the longest record.
 const PART: usize = 256;
+
 const WORDS: usize = 2304;
 
 const NONE: u16 = 65535;

@@ -1,5 +1,6 @@
 // Judges the record on standard input: a line for each question, and the list after order's 0.
-use libc::{STDIN_FILENO, STDOUT_FILENO};
+use libc::STDIN_FILENO;
+use libc::STDOUT_FILENO;
 use model::Answer;
 
 // One byte more than the longest record, so that a longer one is seen to be too long.
@@ -7,7 +8,9 @@ const ROOM: usize = 23076;
 
 // The words of all parts, and of one; the actions of the longest section.
 const WORDS: usize = 2304;
+
 const PART: usize = 256;
+
 const ACTIONS: usize = 128;
 
 fn number(n: u64) {

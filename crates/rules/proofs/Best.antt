@@ -103,12 +103,13 @@ module _ (s : Pass) where
           ⊎-elim
           (λ w. inl (w .0, w .1, any-pass candidate i (w .2) (fails (candidate i) (test v i) (rw (w .1) free) h)))
           (λ w.
-              inr
-              (omega arith,
-              w .1,
-              w .2,
-              any-pass (beats m) i (w .3) (ap (_&&_ (candidate i)) (sym (keyed i m) ∙ ap (λ (u : ℕ). test u i) (sym (w .2))) ∙ h),
-              w .4))
+          inr (
+            omega arith,
+            w .1,
+            w .2,
+            any-pass (beats m) i (w .3) (ap (_&&_ (candidate i)) (sym (keyed i m) ∙ ap (λ (u : ℕ). test u i) (sym (w .2))) ∙ h),
+            w .4,
+          ))
           k
 
     -- after all n: there is no best, or m is the first
@@ -116,13 +117,14 @@ module _ (s : Pass) where
     searched n m v k =
         ⊎-elim (λ w. inl (w .0, any-nowhere (best n) n (λ b l. rw (any-not candidate n b l (w .2)))))
         (λ w.
-            inr
-            (w .0,
-            any-nowhere (best n) m
-            (λ c l.
-                but (candidate c) (not (any n (beats c)))
-                (λ e. rw (any-at (beats c) n m (w .0) (rw (w .1) (w .4 c l e))))),
-            rw (w .1, w .3)))
+        inr (
+          w .0,
+          any-nowhere (best n) m
+              (λ c l.
+              but (candidate c) (not (any n (beats c)))
+              (λ e. rw (any-at (beats c) n m (w .0) (rw (w .1) (w .4 c l e))))),
+          rw (w .1, w .3),
+        ))
         k
 
   pub kept-first : (n m v : ℕ) → Kept n n m v → first n (best n) ≡ m

@@ -5,10 +5,7 @@ use mathlib.Core.Bool.{Bool, true, false, not, _&&_, _||_}
 use lib.Dec.{eqb, ltb, leb}
 use borrow.Author.Tests.{eq-eqb, ne-eqb, lt-ltb, le-ltb, le-leb, lt-leb, ltb-true, ltb-false, not-true, not-false}
 
--- a test that failed, or held
-pub off : {p : Bool} → p ≡ false → false ≡ p
-off h = sym h
-
+-- a test that held, or failed
 pub on : {p : Bool} → p ≡ true → true ≡ p
 on h = sym h
 
@@ -28,15 +25,16 @@ module _ {f p : Bool} (e : f ≡ p) where
   pub same-not : not f ≡ not p
   same-not = rw e
 
+-- a comparison with a number n
+pub ne : {m n : ℕ} → (m ≡ n → ⊥) → false ≡ eqb m n
+ne {m} {n} h = sym (ne-eqb m n h)
+
 leb-not : (k n : ℕ) → leb k n ≡ not (ltb n k)
 leb-not k n = go (ltb n k) refl
   where
     go : (b : Bool) → ltb n k ≡ b → leb k n ≡ not b
     go true h = lt-leb k n (ltb-true n k h)
     go false h = le-leb k n (ltb-false n k h)
-
-pub ne : {m n : ℕ} → (m ≡ n → ⊥) → false ≡ eqb m n
-ne {m} {n} h = sym (ne-eqb m n h)
 
 module _ {m : ℕ} (k : ℕ) (e : m ≡ k) where
   pub unequal : {n : ℕ} → (m ≡ n → ⊥) → false ≡ eqb k n
@@ -54,64 +52,34 @@ module _ {m : ℕ} (k : ℕ) (e : m ≡ k) where
   pub another : {n : ℕ} (l : ℕ) → m ≡ n → false ≡ eqb n l → false ≡ eqb k l
   another l h z = rw (← e, h) z
 
-  pub not-below : {n : ℕ} → n ≤ m → false ≡ ltb k n
-  not-below {n} h = sym (le-ltb k n (rw e at h))
-
-  pub below : {n : ℕ} → m < n → ltb k n ≡ true
-  below {n} h = lt-ltb k n (rw e at h)
-
-  pub above : {n : ℕ} → n < m → ltb n k ≡ true
-  above {n} h = lt-ltb n k (rw e at h)
-
-  pub not-above : {n : ℕ} → m ≤ n → false ≡ ltb n k
-  not-above {n} h = sym (le-ltb n k (rw e at h))
-
-  pub same-not-above : (n : ℕ) → leb m n ≡ not (ltb n k)
-  same-not-above n = rw e (leb-not k n)
-
-  pub same-from : (n : ℕ) → leb n m ≡ leb n k
-  same-from n = rw e
-
   pub same-eqb : (n : ℕ) → eqb m n ≡ eqb k n
   same-eqb n = rw e
 
   pub same-below : (n : ℕ) → ltb m n ≡ ltb k n
   same-below n = rw e
 
-  pub same-above : (n : ℕ) → ltb n m ≡ ltb n k
-  same-above n = rw e
+  pub same-from : (n : ℕ) → leb n m ≡ leb n k
+  same-from n = rw e
 
--- two fields that a branch compared
+  pub same-not-above : (n : ℕ) → leb m n ≡ not (ltb n k)
+  same-not-above n = rw e (leb-not k n)
+
+-- an order of two fields, or of a field and a number
 module _ {m n : ℕ} (k l : ℕ) (e : m ≡ k) (q : n ≡ l) where
-  pub matching : m ≡ n → eqb k l ≡ true
-  matching h = eq-eqb k l (rw (e, q) at h)
-
-  pub differing : (m ≡ n → ⊥) → false ≡ eqb k l
-  differing h = sym (ne-eqb k l (λ z. h (e ∙ z ∙ sym q)))
-
   pub lower : m < n → ltb k l ≡ true
   lower h = lt-ltb k l (rw (e, q) at h)
 
   pub not-lower : n ≤ m → false ≡ ltb k l
   not-lower h = sym (le-ltb k l (rw (e, q) at h))
 
-pub position-not-above : {a b : ℕ} → b ≤ a → false ≡ ltb a b
-position-not-above {a} {b} h = sym (le-ltb a b h)
-
-pub position-above : {a b : ℕ} → a < b → ltb a b ≡ true
-position-above {a} {b} h = lt-ltb a b h
-
 or-false : (p : Bool) → p ≡ p || false
 or-false true = refl
 or-false false = refl
 
--- a chain that fails at its first test, or later; one that comes to its last test
+-- a chain that fails at its first test, that passes, or that comes to its last test
 module _ {p : Bool} where
   pub fails : (q : Bool) → false ≡ p → false ≡ p && q
   fails q h = rw (← h)
-
-  pub fails-later : {q : Bool} → p ≡ true → false ≡ q → false ≡ p && q
-  fails-later h e = rw h e
 
   pub both : {q : Bool} → p ≡ true → q ≡ true → p && q ≡ true
   both h e = rw (h, e)
@@ -131,16 +99,10 @@ module _ {p : Bool} where
   pub either : (q : Bool) → p ≡ true → p || q ≡ true
   either q h = rw h
 
-  pub either-later : {q : Bool} → false ≡ p → q ≡ true → p || q ≡ true
-  either-later h e = rw (← h) e
-
-  pub neither : {q : Bool} → false ≡ p → false ≡ q → false ≡ p || q
-  neither h e = rw (← h) e
-
   pub or-first : {f q : Bool} → f ≡ p → false ≡ q → f ≡ p || q
   or-first e h = rw (← h) (e ∙ or-false p)
 
   pub or-last : {f q : Bool} → false ≡ p → f ≡ q → f ≡ p || q
   or-last h e = rw (← h) e
 
-pub ruleset ways = (on, off, flag-off, flag-on, was-on, was-off, same-not, ne, unequal, unequal-to, equal, equal-to, another, not-below, below, above, not-above, same-not-above, same-from, same-eqb, same-below, same-above, matching, differing, lower, not-lower, position-not-above, position-above, fails, fails-later, both, last, not-passes, not-fails, not-last, either, either-later, neither, or-first, or-last)
+pub ruleset ways = (on, flag-off, flag-on, was-on, was-off, same-not, ne, unequal, unequal-to, equal, equal-to, another, same-eqb, same-below, same-from, same-not-above, lower, not-lower, fails, both, last, not-passes, not-fails, not-last, either, or-first, or-last)

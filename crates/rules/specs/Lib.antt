@@ -1,4 +1,5 @@
--- What the code of the rules asks of a pair of actions, between the fields that it reads and the rules of document 01.
+-- What the code of the rules asks, between the fields that it reads and the rules of document 01.
+pub mod Actions
 pub mod Pairs
 pub mod Tests
 pub mod Starts

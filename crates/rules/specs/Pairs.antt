@@ -1,48 +1,57 @@
--- What a rule asks of another action b of the section x, over the fields of its own action. h is happens-before of the section.
+-- What a rule asks of another action b of the section x than its own action o. h is happens-before of the section.
 use Prim.Native.Nat.{ℕ}
 use mathlib.Core.List.{List}
 use mathlib.Core.Bool.{Bool, not, _&&_, _||_}
 use lib.Dec.{eqb, ltb}
+use Rattle.model.specs.Kinds.{kindRow}
 use Rattle.model.specs.Layout.{ident, thread, kind, target, place, sync, write}
 use Rattle.model.specs.Relations.{plain}
+use Rattle.rules.specs.declared.action.Action.{Action}
 
--- 11: a synchronization action at place p
-abbrev pub placed : List ℕ → ℕ → ℕ → Bool
-placed x p b = sync x b && eqb (place x b) p
+-- 11: a synchronization action at o's place
+abbrev pub placed : List ℕ → Action → ℕ → Bool
+placed x o b = sync x b && eqb (place x b) (o .place)
 
--- 12: a synchronization action of thread t at a place larger than p
-abbrev pub overtaken : List ℕ → ℕ → ℕ → ℕ → Bool
-overtaken x t p b = sync x b && eqb (thread x b) t && ltb p (place x b)
+-- 12: a synchronization action of o's thread at a larger place
+abbrev pub overtaken : List ℕ → Action → ℕ → Bool
+overtaken x o b = sync x b && eqb (thread x b) (o .thread) && ltb (o .place) (place x b)
 
--- 13: an action of kind k on monitor m at a place smaller than p, by anyone or by thread t
-abbrev pub on-monitor : List ℕ → ℕ → ℕ → ℕ → ℕ → Bool → ℕ → Bool
-on-monitor x k m p t anyone b =
-    eqb (kind x b) k && eqb (target x b) m && ltb (place x b) p && (anyone || eqb (thread x b) t)
+-- 13: an action of kind k on o's monitor at a smaller place, by anyone or by o's thread
+abbrev pub on-monitor : List ℕ → ℕ → Bool → Action → ℕ → Bool
+on-monitor x k anyone o b =
+    eqb (kind x b) k && eqb (target x b) (o .target) && ltb (place x b) (o .place) && (anyone || eqb (thread x b) (o .thread))
 
--- 14: an action of thread t after position a; a start of thread t; the last action of thread t, at a place smaller than p
-abbrev pub later-of : List ℕ → ℕ → ℕ → ℕ → Bool
-later-of x a t b = ltb a b && eqb (thread x b) t
+-- 14: an action of o's thread after o; a start of o's target; the last action of o's target, at a smaller place
+abbrev pub later : List ℕ → Action → ℕ → Bool
+later x o b = ltb (o .at) b && eqb (thread x b) (o .thread)
 
-abbrev pub start-of : List ℕ → ℕ → ℕ → Bool
-start-of x t b = eqb (kind x b) 7 && eqb (target x b) t
+abbrev pub started : List ℕ → Action → ℕ → Bool
+started x o b = eqb (kind x b) 7 && eqb (target x b) (o .target)
 
-abbrev pub ended : List ℕ → ℕ → ℕ → ℕ → Bool
-ended x t p b = eqb (kind x b) 9 && eqb (thread x b) t && ltb (place x b) p
+abbrev pub ended : List ℕ → Action → ℕ → Bool
+ended x o b = eqb (kind x b) 9 && eqb (thread x b) (o .target) && ltb (place x b) (o .place)
 
--- a write to variable v; 15: the one of identifier d
+-- a write to variable v; 15: the one that o sees
 abbrev pub write-to : List ℕ → ℕ → ℕ → Bool
 write-to x v b = write x b && eqb (target x b) v
 
-abbrev pub write-of : List ℕ → ℕ → ℕ → ℕ → Bool
-write-of x d v b = eqb (ident x b) d && write-to x v b
+abbrev pub seen-write : List ℕ → Action → ℕ → Bool
+seen-write x o b = eqb (ident x b) (o .seen) && write-to x (o .target) b
 
--- 18: a write to variable v that happens before a, and after the write at w, or after the initial one
-abbrev pub hiding : (ℕ → ℕ → Bool) → List ℕ → ℕ → Bool → ℕ → ℕ → ℕ → Bool
-hiding h x v initial w a b = write-to x v b && (initial || h w b) && h b a
+-- 17: a write to o's variable at a smaller place
+abbrev pub earlier : List ℕ → Action → ℕ → Bool
+earlier x o b = write-to x (o .target) b && ltb (place x b) (o .place)
 
--- 31: b is a plain access to variable v, and it or the other access writes; it races with that access, at a smaller position a
-abbrev pub conflicting : List ℕ → ℕ → Bool → ℕ → Bool
-conflicting x v writes b = plain x b && eqb v (target x b) && (writes || write x b)
+-- 18: a write to o's variable that happens before o, and after the write that o sees
+abbrev pub hiding : (ℕ → ℕ → Bool) → List ℕ → Action → ℕ → Bool
+hiding h x o b = write-to x (o .target) b && (eqb (o .seen) 0 || h (o .source) b) && h b (o .at)
 
-abbrev pub racing-with : (ℕ → ℕ → Bool) → List ℕ → ℕ → ℕ → Bool → ℕ → Bool
-racing-with h x a v writes b = ltb a b && (conflicting x v writes b && not (h a b) && not (h b a))
+-- 31: a plain access to o's variable, where it or o writes; neither hb the other, so that it races with o, if o is a plain access; and it comes after o
+abbrev pub conflicting : List ℕ → Action → ℕ → Bool
+conflicting x o b = plain x b && eqb (o .target) (target x b) && (kindRow (o .kind) .write || write x b)
+
+abbrev pub unordered : (ℕ → ℕ → Bool) → List ℕ → Action → ℕ → Bool
+unordered h x o b = conflicting x o b && not (h (o .at) b) && not (h b (o .at))
+
+abbrev pub racing : (ℕ → ℕ → Bool) → List ℕ → Action → ℕ → Bool
+racing h x o b = ltb (o .at) b && unordered h x o b

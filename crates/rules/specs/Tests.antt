@@ -1,23 +1,32 @@
--- A test as the code passes it: what it asks of an action of the section x. h is happens-before of the section.
+-- The tests by number, as the code passes them: what test t asks of an action of the section x beside a rule's own action o. h is happens-before of the section.
 use Prim.Native.Nat.{ℕ}
 use mathlib.Core.List.{List}
-use mathlib.Core.Bool.{Bool}
-use lib.Dec.{eqb}
-use Rattle.model.specs.Layout.{ident, thread, sync}
-use Rattle.rules.specs.declared.search.Test.{Test}
-use Rattle.rules.specs.declared.search.Test.the-variants.{Sync, Placed, Overtaken, OnMonitor, Of, LaterOf, StartOf, Ended, Named, WriteOf, Hiding, RacingWith}
-use Rattle.rules.specs.Pairs.{placed, overtaken, on-monitor, later-of, start-of, ended, write-of, hiding, racing-with}
+use mathlib.Core.Bool.{Bool, true, false, cond}
+use lib.Dec.{eqb, ltb}
+use Rattle.model.specs.Layout.{size, ident, thread, sync}
+use Rattle.model.specs.Search.{count}
+use Rattle.rules.specs.declared.action.Action.{Action}
+use Rattle.rules.specs.Pairs.{placed, overtaken, on-monitor, later, started, ended, seen-write, hiding, racing}
 
-abbrev pub holds : (ℕ → ℕ → Bool) → List ℕ → Test → ℕ → Bool
-holds h x Sync = sync x
-holds h x (Placed p) = placed x p
-holds h x (Overtaken t p) = overtaken x t p
-holds h x (OnMonitor k m p t anyone) = on-monitor x k m p t anyone
-holds h x (Of t) = λ b. eqb (thread x b) t
-holds h x (LaterOf a t) = later-of x a t
-holds h x (StartOf t) = start-of x t
-holds h x (Ended t p) = ended x t p
-holds h x (Named d) = λ b. eqb (ident x b) d
-holds h x (WriteOf d v) = write-of x d v
-holds h x (Hiding v initial w a) = hiding h x v initial w a
-holds h x (RacingWith a v writes) = racing-with h x a v writes
+unfoldable pub holds : (ℕ → ℕ → Bool) → List ℕ → ℕ → Action → ℕ → Bool
+holds h x t o =
+    cond (eqb t 0) (sync x)
+    (cond (eqb t 1) (placed x o)
+    (cond (eqb t 2) (overtaken x o)
+    (cond (eqb t 3) (on-monitor x 5 true o)
+    (cond (eqb t 4) (on-monitor x 6 true o)
+    (cond (eqb t 5) (on-monitor x 5 false o)
+    (cond (eqb t 6) (on-monitor x 6 false o)
+    (cond (eqb t 7) (λ b. eqb (thread x b) (o .thread))
+    (cond (eqb t 8) (λ b. eqb (thread x b) (o .target))
+    (cond (eqb t 9) (later x o)
+    (cond (eqb t 10) (started x o)
+    (cond (eqb t 11) (ended x o)
+    (cond (eqb t 12) (λ b. eqb (ident x b) (o .seen))
+    (cond (eqb t 13) (seen-write x o)
+    (cond (eqb t 14) (hiding h x o)
+    (racing h x o)))))))))))))))
+
+-- fewer actions pass test t than test u
+abbrev pub fewer : (ℕ → ℕ → Bool) → List ℕ → ℕ → ℕ → Action → Bool
+fewer h x t u o = ltb (count (size x) (holds h x t o)) (count (size x) (holds h x u o))

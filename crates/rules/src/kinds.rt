@@ -1,5 +1,6 @@
 // What the table of kinds says of an action.
 ghost use mathlib.Core.Path.{_≡_};
+ghost use Rattle.model.specs.Kinds.{kindRow};
 ghost use Rattle.model.specs.Layout.{sync, read, write};
 ghost use Rattle.model.specs.Relations.{plain};
 
@@ -15,10 +16,16 @@ pub fn read(x: &[u8], a: u16) -> bool
     model::row_of(fields::kind(x, a)).read
 }
 
+pub fn writes(kind: u8) -> bool
+    ensures { λ r. ⌜ r ≡ kindRow kind .write ⌝ }
+{
+    model::row_of(kind).write
+}
+
 pub fn write(x: &[u8], a: u16) -> bool
     ensures { λ r. ⌜ r ≡ write (now (x .entry)) a ⌝ }
 {
-    model::row_of(fields::kind(x, a)).write
+    writes(fields::kind(x, a))
 }
 
 // A read or a write that is not volatile.

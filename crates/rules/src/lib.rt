@@ -1,4 +1,5 @@
 // Rules 11 to 18 on one section x, and its race. Positions are below the section's count; a field past the section's end reads as 0, so every x has its answer.
+mod action;
 mod consistency;
 mod kinds;
 mod monitors;
@@ -10,7 +11,6 @@ mod seen;
 mod threads;
 
 use model::Answer;
-use search::Test;
 ghost use mathlib.Core.Path.{_≡_};
 ghost use Rattle.model.specs.Limits.{rowWords};
 ghost use Rattle.model.specs.Search.{count, found, none};
@@ -41,7 +41,8 @@ fn first_broken(x: &[u8], part: &[u64], number: u8) -> u16
     ensures { λ r. ⌜ r ≡ found (size (now (x .entry))) (broken (bit rowWords (now (part .entry))) (now (x .entry)) number) ⌝ }
 {
     let n = fields::size(x);
-    let total = search::count(x, part, Test::Sync, n);
+    // The test asks nothing of the action that it is given; of the rules 11 alone asks for the count.
+    let total = search::count(x, part, search::SYNC, action::load(x, 0), n);
     for a in 0..n {
         if broken(x, part, total, number, a) {
             return a;
@@ -54,7 +55,12 @@ fn first_broken(x: &[u8], part: &[u64], number: u8) -> u16
 fn pass() -> Answer
     ensures { λ r. ⌜ r ≡ pass ⌝ }
 {
-    Answer { n: 0, s: 0, a: search::NONE, b: search::NONE }
+    Answer {
+        n: 0,
+        s: 0,
+        a: search::NONE,
+        b: search::NONE,
+    }
 }
 
 // Number n and section s, naming position a, unless a is none.
@@ -64,7 +70,12 @@ fn naming(n: u8, s: u8, a: u16) -> Answer
     if a == search::NONE {
         return pass();
     }
-    Answer { n, s, a, b: search::NONE }
+    Answer {
+        n,
+        s,
+        a,
+        b: search::NONE,
+    }
 }
 
 fn rule(x: &[u8], part: &[u64], number: u8, s: u8) -> Answer

@@ -1,24 +1,21 @@
 // 13, the monitor rule.
+use crate::action;
+use crate::action::Action;
 use crate::search;
-use crate::search::Test;
 ghost use mathlib.Core.Path.{_≡_};
-ghost use mathlib.Core.Bool.{_||_};
-ghost use lib.Dec.{eqb};
-ghost use Rattle.model.specs.Layout.{size, thread};
+ghost use Rattle.model.specs.Limits.{rowWords};
+ghost use Rattle.model.specs.Layout.{size};
 ghost use Rattle.model.specs.Search.{found};
-ghost use Rattle.model.specs.Rules.{held, least, broken13};
+ghost use Rattle.model.specs.WorkArea.{bit};
+ghost use Rattle.model.specs.Rules.{least, broken13};
+ghost use Rattle.rules.specs.Tests.{fewer};
 
-// Before a's place a's monitor is held, by anyone or by a's thread.
-fn held(x: &[u8], part: &[u64], a: u16, anyone: bool) -> bool
-    ensures { λ r. ⌜ r ≡ held (now (x .entry)) a (λ t. anyone || eqb t (thread (now (x .entry)) a)) ⌝ }
+// Fewer actions pass test t than test u: a monitor is held while fewer unlocks than locks of it have gone before.
+fn fewer(x: &[u8], part: &[u64], t: u8, u: u8, own: Action) -> bool
+    ensures { λ r. ⌜ r ≡ fewer (bit rowWords (now (part .entry))) (now (x .entry)) t u own ⌝ }
 {
     let n = fields::size(x);
-    let target = fields::target(x, a);
-    let place = fields::place(x, a);
-    let thread = fields::thread(x, a);
-    let unlocks = search::count(x, part, Test::OnMonitor { kind: 6, target, place, thread, anyone }, n);
-    let locks = search::count(x, part, Test::OnMonitor { kind: 5, target, place, thread, anyone }, n);
-    unlocks < locks
+    search::count(x, part, t, own, n) < search::count(x, part, u, own, n)
 }
 
 fn broken13(x: &[u8], part: &[u64], a: u16) -> bool
@@ -26,15 +23,27 @@ fn broken13(x: &[u8], part: &[u64], a: u16) -> bool
 {
     let kind = fields::kind(x, a);
     if kind == 5 {
-        return held(x, part, a, true);
+        return fewer(
+            x,
+            part,
+            search::UNLOCKED,
+            search::LOCKED,
+            action::load(x, a),
+        );
     }
     if kind == 6 {
-        return !held(x, part, a, false);
+        return !fewer(
+            x,
+            part,
+            search::OWN_UNLOCKED,
+            search::OWN_LOCKED,
+            action::load(x, a),
+        );
     }
     false
 }
 
-// The broken action of least place, in one pass: `below` is the least place so far.
+// The broken action of least place, in one pass: `below` is the least place so far, over all places at first.
 pub fn least13(x: &[u8], part: &[u64]) -> u16
     ensures { λ r. ⌜ r ≡ found (size (now (x .entry))) (least (now (x .entry)) (broken13 (now (x .entry)))) ⌝ }
 {

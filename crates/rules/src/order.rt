@@ -1,7 +1,7 @@
 // 11 and 12, the order rules.
+use crate::action;
 use crate::kinds;
 use crate::search;
-use crate::search::Test;
 ghost use mathlib.Core.Path.{_≡_};
 ghost use Rattle.model.specs.Layout.{size, sync};
 ghost use Rattle.model.specs.Search.{count};
@@ -15,11 +15,10 @@ pub fn broken11(x: &[u8], part: &[u64], total: u16, a: u16) -> bool
     if !kinds::sync(x, a) {
         return false;
     }
-    let place = fields::place(x, a);
-    if total < place {
+    if total < fields::place(x, a) {
         return true;
     }
-    search::any(x, part, Test::Placed { place }, a)
+    search::any(x, part, search::PLACED, action::load(x, a), a)
 }
 
 pub fn broken12(x: &[u8], part: &[u64], a: u16) -> bool
@@ -28,7 +27,5 @@ pub fn broken12(x: &[u8], part: &[u64], a: u16) -> bool
     if !kinds::sync(x, a) {
         return false;
     }
-    let thread = fields::thread(x, a);
-    let place = fields::place(x, a);
-    search::any(x, part, Test::Overtaken { thread, place }, a)
+    search::any(x, part, search::OVERTAKEN, action::load(x, a), a)
 }

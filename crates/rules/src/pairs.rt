@@ -1,79 +1,82 @@
-// What a rule asks of another action b than its own, whose fields are read once and passed. What is cheap and fails most often comes first.
+// What a rule asks of another action b than its own. What is cheap and fails most often comes first.
+use crate::action::Action;
 use crate::kinds;
 ghost use mathlib.Core.Path.{_≡_};
 ghost use mathlib.Core.Bool.{_||_};
+ghost use lib.Dec.{eqb};
 ghost use Rattle.model.specs.Layout.{write};
 ghost use Rattle.model.specs.Limits.{rowWords};
+ghost use Rattle.model.specs.Kinds.{kindRow};
 ghost use Rattle.model.specs.WorkArea.{bit};
-ghost use Rattle.rules.specs.Pairs.{placed, overtaken, on-monitor, later-of, start-of, ended, write-of, write-to, hiding, conflicting, racing-with};
+ghost use Rattle.rules.specs.Pairs.{placed, overtaken, on-monitor, later, started, ended, write-to, seen-write, hiding, conflicting, unordered, racing};
 
-pub fn placed(x: &[u8], place: u16, b: u16) -> bool
-    ensures { λ r. ⌜ r ≡ placed (now (x .entry)) place b ⌝ }
+pub fn placed(x: &[u8], own: Action, b: u16) -> bool
+    ensures { λ r. ⌜ r ≡ placed (now (x .entry)) own b ⌝ }
 {
     if !kinds::sync(x, b) {
         return false;
     }
-    fields::place(x, b) == place
+    fields::place(x, b) == own.place
 }
 
-pub fn overtaken(x: &[u8], thread: u8, place: u16, b: u16) -> bool
-    ensures { λ r. ⌜ r ≡ overtaken (now (x .entry)) thread place b ⌝ }
+pub fn overtaken(x: &[u8], own: Action, b: u16) -> bool
+    ensures { λ r. ⌜ r ≡ overtaken (now (x .entry)) own b ⌝ }
 {
     if !kinds::sync(x, b) {
         return false;
     }
-    if fields::thread(x, b) != thread {
+    if fields::thread(x, b) != own.thread {
         return false;
     }
-    place < fields::place(x, b)
+    own.place < fields::place(x, b)
 }
 
-pub fn on_monitor(x: &[u8], kind: u8, target: u8, place: u16, thread: u8, anyone: bool, b: u16) -> bool
-    ensures { λ r. ⌜ r ≡ on-monitor (now (x .entry)) kind target place thread anyone b ⌝ }
+pub fn on_monitor(x: &[u8], kind: u8, anyone: bool, own: Action, b: u16) -> bool
+    ensures { λ r. ⌜ r ≡ on-monitor (now (x .entry)) kind anyone own b ⌝ }
 {
     if fields::kind(x, b) != kind {
         return false;
     }
-    if fields::target(x, b) != target {
+    if fields::target(x, b) != own.target {
         return false;
     }
-    if fields::place(x, b) >= place {
+    if fields::place(x, b) >= own.place {
         return false;
     }
     if anyone {
         return true;
     }
-    fields::thread(x, b) == thread
+    fields::thread(x, b) == own.thread
 }
 
-pub fn later_of(x: &[u8], at: u16, thread: u8, b: u16) -> bool
-    ensures { λ r. ⌜ r ≡ later-of (now (x .entry)) at thread b ⌝ }
+pub fn later(x: &[u8], own: Action, b: u16) -> bool
+    ensures { λ r. ⌜ r ≡ later (now (x .entry)) own b ⌝ }
 {
-    if b <= at {
+    if b <= own.at {
         return false;
     }
-    fields::thread(x, b) == thread
+    fields::thread(x, b) == own.thread
 }
 
-pub fn start_of(x: &[u8], thread: u8, b: u16) -> bool
-    ensures { λ r. ⌜ r ≡ start-of (now (x .entry)) thread b ⌝ }
+pub fn started(x: &[u8], own: Action, b: u16) -> bool
+    ensures { λ r. ⌜ r ≡ started (now (x .entry)) own b ⌝ }
 {
     if fields::kind(x, b) != 7 {
         return false;
     }
-    fields::target(x, b) == thread
+    fields::target(x, b) == own.target
 }
 
-pub fn ended(x: &[u8], thread: u8, place: u16, b: u16) -> bool
-    ensures { λ r. ⌜ r ≡ ended (now (x .entry)) thread place b ⌝ }
+pub fn ended(x: &[u8], own: Action, b: u16) -> bool
+    ensures { λ r. ⌜ r ≡ ended (now (x .entry)) own b ⌝ }
 {
     if fields::kind(x, b) != 9 {
         return false;
     }
-    if fields::thread(x, b) != thread {
+    if fields::thread(x, b) != own.target {
         return false;
     }
-    fields::place(x, b) < place
+    fields::place(x, b) < own.place
 }
 
 pub fn write_to(x: &[u8], target: u8, b: u16) -> bool
@@ -85,70 +88,76 @@ pub fn write_to(x: &[u8], target: u8, b: u16) -> bool
     fields::target(x, b) == target
 }
 
-pub fn write_of(x: &[u8], ident: u16, target: u8, b: u16) -> bool
-    ensures { λ r. ⌜ r ≡ write-of (now (x .entry)) ident target b ⌝ }
+pub fn seen_write(x: &[u8], own: Action, b: u16) -> bool
+    ensures { λ r. ⌜ r ≡ seen-write (now (x .entry)) own b ⌝ }
 {
-    if fields::ident(x, b) != ident {
+    if fields::ident(x, b) != own.seen {
         return false;
     }
-    write_to(x, target, b)
+    write_to(x, own.target, b)
 }
 
-// The write seen, which is the initial one or the one at source, happens before b.
-fn seen_hb(part: &[u64], initial: bool, source: u16, b: u16) -> bool
-    ensures { λ r. ⌜ r ≡ (initial || bit rowWords (now (part .entry)) source b) ⌝ }
+// The write seen, which is the initial one or the one at `source`, happens before b.
+fn seen_hb(part: &[u64], own: Action, b: u16) -> bool
+    ensures { λ r. ⌜ r ≡ (eqb (own .seen) 0 || bit rowWords (now (part .entry)) (own .source) b) ⌝ }
 {
-    if initial {
+    if own.seen == 0 {
         return true;
     }
-    rows::get(part, source, b)
+    rows::get(part, own.source, b)
 }
 
-pub fn hiding(x: &[u8], part: &[u64], target: u8, initial: bool, source: u16, at: u16, b: u16) -> bool
-    ensures { λ r. ⌜ r ≡ hiding (bit rowWords (now (part .entry))) (now (x .entry)) target initial source at b ⌝ }
+pub fn hiding(x: &[u8], part: &[u64], own: Action, b: u16) -> bool
+    ensures { λ r. ⌜ r ≡ hiding (bit rowWords (now (part .entry))) (now (x .entry)) own b ⌝ }
 {
-    if !write_to(x, target, b) {
+    if !write_to(x, own.target, b) {
         return false;
     }
-    if !seen_hb(part, initial, source, b) {
+    if !seen_hb(part, own, b) {
         return false;
     }
-    rows::get(part, b, at)
+    rows::get(part, b, own.at)
 }
 
-// At least one of two accesses is a write: the one that `writes` says, or b.
-fn one_writes(x: &[u8], writes: bool, b: u16) -> bool
-    ensures { λ r. ⌜ r ≡ (writes || write (now (x .entry)) b) ⌝ }
+// At least one of two accesses is a write: the one of this kind, or b.
+fn one_writes(x: &[u8], kind: u8, b: u16) -> bool
+    ensures { λ r. ⌜ r ≡ (kindRow kind .write || write (now (x .entry)) b) ⌝ }
 {
-    if writes {
+    if kinds::writes(kind) {
         return true;
     }
     kinds::write(x, b)
 }
 
-fn conflicting(x: &[u8], target: u8, writes: bool, b: u16) -> bool
-    ensures { λ r. ⌜ r ≡ conflicting (now (x .entry)) target writes b ⌝ }
+fn conflicting(x: &[u8], own: Action, b: u16) -> bool
+    ensures { λ r. ⌜ r ≡ conflicting (now (x .entry)) own b ⌝ }
 {
     if !kinds::plain(x, b) {
         return false;
     }
-    if target != fields::target(x, b) {
+    if own.target != fields::target(x, b) {
         return false;
     }
-    one_writes(x, writes, b)
+    one_writes(x, own.kind, b)
 }
 
-pub fn racing_with(x: &[u8], part: &[u64], at: u16, target: u8, writes: bool, b: u16) -> bool
-    ensures { λ r. ⌜ r ≡ racing-with (bit rowWords (now (part .entry))) (now (x .entry)) at target writes b ⌝ }
+fn unordered(x: &[u8], part: &[u64], own: Action, b: u16) -> bool
+    ensures { λ r. ⌜ r ≡ unordered (bit rowWords (now (part .entry))) (now (x .entry)) own b ⌝ }
 {
-    if b <= at {
+    if !conflicting(x, own, b) {
         return false;
     }
-    if !conflicting(x, target, writes, b) {
+    if rows::get(part, own.at, b) {
         return false;
     }
-    if rows::get(part, at, b) {
+    !rows::get(part, b, own.at)
+}
+
+pub fn racing(x: &[u8], part: &[u64], own: Action, b: u16) -> bool
+    ensures { λ r. ⌜ r ≡ racing (bit rowWords (now (part .entry))) (now (x .entry)) own b ⌝ }
+{
+    if b <= own.at {
         return false;
     }
-    !rows::get(part, b, at)
+    unordered(x, part, own, b)
 }

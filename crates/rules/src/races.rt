@@ -1,7 +1,7 @@
 // The race of number 31.
+use crate::action;
 use crate::kinds;
 use crate::search;
-use crate::search::Test;
 ghost use mathlib.Core.Path.{_≡_};
 ghost use Rattle.model.specs.Limits.{rowWords};
 ghost use Rattle.model.specs.Layout.{size};
@@ -17,9 +17,7 @@ pub fn raced(x: &[u8], part: &[u64], a: u16) -> u16
     if !kinds::plain(x, a) {
         return n;
     }
-    let target = fields::target(x, a);
-    let writes = kinds::write(x, a);
-    search::first(x, part, Test::RacingWith { at: a, target, writes }, n)
+    search::first(x, part, search::RACING, action::load(x, a), n)
 }
 
 pub fn races(x: &[u8], part: &[u64], a: u16) -> bool

@@ -1,4 +1,6 @@
 // The searches over a section's actions: one loop each, for every rule that asks for it.
+use crate::action::Action;
+use crate::kinds;
 use crate::pairs;
 ghost use mathlib.Core.Path.{_≡_};
 ghost use Rattle.model.specs.Limits.{rowWords};
@@ -9,47 +11,73 @@ ghost use Rattle.rules.specs.Tests.{holds};
 // No position.
 pub const NONE: u16 = 65535;
 
-// What is asked of each action, with the fields of the action in question.
-pub enum Test {
-    Sync,
-    Placed { place: u16 },
-    Overtaken { thread: u8, place: u16 },
-    OnMonitor { kind: u8, target: u8, place: u16, thread: u8, anyone: bool },
-    Of { thread: u8 },
-    LaterOf { at: u16, thread: u8 },
-    StartOf { thread: u8 },
-    Ended { thread: u8, place: u16 },
-    Named { ident: u16 },
-    WriteOf { ident: u16, target: u8 },
-    Hiding { target: u8, initial: bool, source: u16, at: u16 },
-    RacingWith { at: u16, target: u8, writes: bool },
-}
+// The tests: what a rule asks of each action b, beside its own action. Of 11 and 12:
+pub const SYNC: u8 = 0;
 
-fn holds(x: &[u8], part: &[u64], t: Test, b: u16) -> bool
-    ensures { λ r. ⌜ r ≡ holds (bit rowWords (now (part .entry))) (now (x .entry)) t b ⌝ }
+pub const PLACED: u8 = 1;
+
+pub const OVERTAKEN: u8 = 2;
+
+// Of 13:
+pub const LOCKED: u8 = 3;
+
+pub const UNLOCKED: u8 = 4;
+
+pub const OWN_LOCKED: u8 = 5;
+
+pub const OWN_UNLOCKED: u8 = 6;
+
+// Of 14:
+pub const OF_THREAD: u8 = 7;
+
+pub const OF_TARGET: u8 = 8;
+
+pub const LATER: u8 = 9;
+
+pub const STARTED: u8 = 10;
+
+pub const ENDED: u8 = 11;
+
+// Of 15 to 18:
+pub const SEEN: u8 = 12;
+
+pub const SEEN_WRITE: u8 = 13;
+
+pub const HIDING: u8 = 14;
+
+// Of 31:
+pub const RACING: u8 = 15;
+
+// Action b passes test t. A test has a number so that a loop is compiled for each: the numbers are constants where the loops are called.
+fn holds(x: &[u8], part: &[u64], t: u8, own: Action, b: u16) -> bool
+    ensures { λ r. ⌜ r ≡ holds (bit rowWords (now (part .entry))) (now (x .entry)) t own b ⌝ }
 {
     match t {
-        Test::Sync => crate::kinds::sync(x, b),
-        Test::Placed { place } => pairs::placed(x, place, b),
-        Test::Overtaken { thread, place } => pairs::overtaken(x, thread, place, b),
-        Test::OnMonitor { kind, target, place, thread, anyone } => pairs::on_monitor(x, kind, target, place, thread, anyone, b),
-        Test::Of { thread } => fields::thread(x, b) == thread,
-        Test::LaterOf { at, thread } => pairs::later_of(x, at, thread, b),
-        Test::StartOf { thread } => pairs::start_of(x, thread, b),
-        Test::Ended { thread, place } => pairs::ended(x, thread, place, b),
-        Test::Named { ident } => fields::ident(x, b) == ident,
-        Test::WriteOf { ident, target } => pairs::write_of(x, ident, target, b),
-        Test::Hiding { target, initial, source, at } => pairs::hiding(x, part, target, initial, source, at, b),
-        Test::RacingWith { at, target, writes } => pairs::racing_with(x, part, at, target, writes, b),
+        SYNC => kinds::sync(x, b),
+        PLACED => pairs::placed(x, own, b),
+        OVERTAKEN => pairs::overtaken(x, own, b),
+        LOCKED => pairs::on_monitor(x, 5, true, own, b),
+        UNLOCKED => pairs::on_monitor(x, 6, true, own, b),
+        OWN_LOCKED => pairs::on_monitor(x, 5, false, own, b),
+        OWN_UNLOCKED => pairs::on_monitor(x, 6, false, own, b),
+        OF_THREAD => fields::thread(x, b) == own.thread,
+        OF_TARGET => fields::thread(x, b) == own.target,
+        LATER => pairs::later(x, own, b),
+        STARTED => pairs::started(x, own, b),
+        ENDED => pairs::ended(x, own, b),
+        SEEN => fields::ident(x, b) == own.seen,
+        SEEN_WRITE => pairs::seen_write(x, own, b),
+        HIDING => pairs::hiding(x, part, own, b),
+        _ => pairs::racing(x, part, own, b),
     }
 }
 
 // One of the first `to` actions passes the test.
-pub fn any(x: &[u8], part: &[u64], t: Test, to: u16) -> bool
-    ensures { λ r. ⌜ r ≡ any to (holds (bit rowWords (now (part .entry))) (now (x .entry)) t) ⌝ }
+pub fn any(x: &[u8], part: &[u64], t: u8, own: Action, to: u16) -> bool
+    ensures { λ r. ⌜ r ≡ any to (holds (bit rowWords (now (part .entry))) (now (x .entry)) t own) ⌝ }
 {
     for b in 0..to {
-        if holds(x, part, t, b) {
+        if holds(x, part, t, own, b) {
             return true;
         }
     }
@@ -57,11 +85,11 @@ pub fn any(x: &[u8], part: &[u64], t: Test, to: u16) -> bool
 }
 
 // The first of n actions that passes the test; n where none does.
-pub fn first(x: &[u8], part: &[u64], t: Test, n: u16) -> u16
-    ensures { λ r. ⌜ r ≡ first n (holds (bit rowWords (now (part .entry))) (now (x .entry)) t) ⌝ }
+pub fn first(x: &[u8], part: &[u64], t: u8, own: Action, n: u16) -> u16
+    ensures { λ r. ⌜ r ≡ first n (holds (bit rowWords (now (part .entry))) (now (x .entry)) t own) ⌝ }
 {
     for b in 0..n {
-        if holds(x, part, t, b) {
+        if holds(x, part, t, own, b) {
             return b;
         }
     }
@@ -69,12 +97,12 @@ pub fn first(x: &[u8], part: &[u64], t: Test, n: u16) -> u16
 }
 
 // How many of n actions pass the test.
-pub fn count(x: &[u8], part: &[u64], t: Test, n: u16) -> u16
-    ensures { λ r. ⌜ r ≡ count n (holds (bit rowWords (now (part .entry))) (now (x .entry)) t) ⌝ }
+pub fn count(x: &[u8], part: &[u64], t: u8, own: Action, n: u16) -> u16
+    ensures { λ r. ⌜ r ≡ count n (holds (bit rowWords (now (part .entry))) (now (x .entry)) t own) ⌝ }
 {
     let mut passed = 0;
     for b in 0..n {
-        if holds(x, part, t, b) {
+        if holds(x, part, t, own, b) {
             passed += 1;
         }
     }

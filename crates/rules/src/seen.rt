@@ -1,16 +1,17 @@
 // 15 and 16, the seen-write rules.
+use crate::action;
+use crate::action::Action;
 use crate::kinds;
 use crate::search;
-use crate::search::Test;
 ghost use mathlib.Core.Path.{_≡_};
-ghost use Rattle.model.specs.Rules.{seen-at, broken15, broken16};
+ghost use Rattle.model.specs.Rules.{broken15, broken16};
+ghost use Rattle.rules.specs.Actions.{seen-by};
 
-// The action of the write that a sees.
-pub fn seen_at(x: &[u8], part: &[u64], a: u16) -> u16
-    ensures { λ r. ⌜ r ≡ seen-at (now (x .entry)) a ⌝ }
+// The action of the write that the action sees; the section's size where it is the initial write.
+pub fn seen_by(x: &[u8], part: &[u64], own: Action) -> u16
+    ensures { λ r. ⌜ r ≡ seen-by (now (x .entry)) own ⌝ }
 {
-    let ident = fields::seen(x, a);
-    search::first(x, part, Test::Named { ident }, fields::size(x))
+    search::first(x, part, search::SEEN, own, fields::size(x))
 }
 
 pub fn broken15(x: &[u8], part: &[u64], a: u16) -> bool
@@ -19,12 +20,16 @@ pub fn broken15(x: &[u8], part: &[u64], a: u16) -> bool
     if !kinds::read(x, a) {
         return false;
     }
-    let ident = fields::seen(x, a);
-    if ident == 0 {
+    if fields::seen(x, a) == 0 {
         return false;
     }
-    let target = fields::target(x, a);
-    !search::any(x, part, Test::WriteOf { ident, target }, fields::size(x))
+    !search::any(
+        x,
+        part,
+        search::SEEN_WRITE,
+        action::load(x, a),
+        fields::size(x),
+    )
 }
 
 pub fn broken16(x: &[u8], part: &[u64], a: u16) -> bool
@@ -37,5 +42,5 @@ pub fn broken16(x: &[u8], part: &[u64], a: u16) -> bool
     if fields::seen(x, a) == 0 {
         return value != 0;
     }
-    value != fields::value(x, seen_at(x, part, a))
+    value != fields::value(x, seen_by(x, part, action::load(x, a)))
 }

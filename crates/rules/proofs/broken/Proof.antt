@@ -36,14 +36,15 @@ returns-7 c = rw (c .before .match .keys7) (c .broken18 .ensures)
 returns-8 : tie.Need-returns-8
 unfolding broken
 returns-8 c =
-    rw
-    (ne-eqb _ 11 (c .before .match .rest .0 .0 .0 .0 .0 .0 .1),
-    ne-eqb _ 12 (c .before .match .rest .0 .0 .0 .0 .0 .1),
-    ne-eqb _ 14 (c .before .match .rest .0 .0 .0 .0 .1),
-    ne-eqb _ 15 (c .before .match .rest .0 .0 .0 .1),
-    ne-eqb _ 16 (c .before .match .rest .0 .0 .1),
-    ne-eqb _ 17 (c .before .match .rest .0 .1),
-    ne-eqb _ 18 (c .before .match .rest .1))
+    rw (
+      ne-eqb _ 11 (c .before .match .rest .0 .0 .0 .0 .0 .0 .1),
+      ne-eqb _ 12 (c .before .match .rest .0 .0 .0 .0 .0 .1),
+      ne-eqb _ 14 (c .before .match .rest .0 .0 .0 .0 .1),
+      ne-eqb _ 15 (c .before .match .rest .0 .0 .0 .1),
+      ne-eqb _ 16 (c .before .match .rest .0 .0 .1),
+      ne-eqb _ 17 (c .before .match .rest .0 .1),
+      ne-eqb _ 18 (c .before .match .rest .1),
+    )
     (c .races .ensures)
 
 pub broken-spec : {M : Type 1} → statement M

@@ -10,6 +10,7 @@ use Rattle.model.specs.Search.{any}
 use Rattle.model.specs.WorkArea.{bit}
 use Rattle.model.proofs.Search.{any-none, any-pass, found-none, found-at}
 use Rattle.rules.specs.Numbers.{broken}
+use Rattle.rules.specs.Tests.{holds}
 use Rattle.rules.proofs.first_broken.Statement.{statement}
 use Rattle.rules.proofs.first_broken.Tie as tie
 
@@ -23,12 +24,13 @@ loop-holds : tie.Need-loop-holds Inv-loop μ-loop
 loop-holds c = (omega arith, any-none _)
 
 broken-requires : tie.Need-broken-requires Inv-loop μ-loop
-broken-requires c κs = c .before .before .count .ensures ∙ rw (c .before .before .before .size .ensures)
+unfolding holds
+broken-requires c κs = c .before .before .count .ensures ∙ rw (c .before .before .before .before .size .ensures)
 
 returns : tie.Need-returns Inv-loop μ-loop
 returns c =
     sym
-    (found-at _ _ (c .before .before .before .loop .a) (omega (arith, c .before .before .before .before .before .size .ensures)) (c .before .before .before .loop .inv .1)
+    (found-at _ _ (c .before .before .before .loop .a) (omega (arith, c .before .before .before .before .before .before .size .ensures)) (c .before .before .before .loop .inv .1)
     (sym (c .before .broken .ensures) ∙ c .if1 .taken))
 
 loop-again : tie.Need-loop-again Inv-loop μ-loop
@@ -37,7 +39,7 @@ loop-again c =
 
 returns-2 : tie.Need-returns-2 Inv-loop μ-loop
 returns-2 c =
-    let e : c .before .loop .a ≡ size (c .before .before .before .before .before .before .args .x .now) = omega (arith, c .before .before .before .size .ensures) in
+    let e : c .before .loop .a ≡ size (c .before .before .before .before .before .before .before .args .x .now) = omega (arith, c .before .before .before .before .size .ensures) in
     sym (found-none _ _ (rw e at (c .before .loop .inv .1)))
 
 pub first-broken-spec : {M : Type 1} → statement M
@@ -46,6 +48,7 @@ first-broken-spec =
     (tie.spec
     Inv-loop
     μ-loop
+    (λ c κs. search needs)
     (λ c κs. search needs)
     (λ c κs. search needs)
     loop-holds

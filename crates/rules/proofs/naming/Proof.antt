@@ -10,7 +10,7 @@ returns : tie.Need-returns
 returns c = c .pass .ensures ∙ sym (naming-none _ _ _ _ (c .before .if1 .taken))
 
 returns-2 : tie.Need-returns-2
-returns-2 c = 
+returns-2 c =
     sym (naming-at _ _ _ _ (omega arith))
 
 pub naming-spec : {M : Type 1} → statement M

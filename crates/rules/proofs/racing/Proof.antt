@@ -10,12 +10,12 @@ use Rattle.rules.proofs.racing.Tie as tie
 
 returns : tie.Need-returns
 unfolding racing broken
-returns c = 
+returns c =
     c .pass .ensures ∙ sym (pair-none _ _ _ _ (c .before .before .first-broken .ensures) (c .before .if1 .taken))
 
 returns-2 : tie.Need-returns-2
 unfolding racing broken
-returns-2 c = 
+returns-2 c =
     sym (pair-at _ _ _ _ (c .before .before .first-broken .ensures) (c .raced .ensures) (omega arith))
 
 pub racing-spec : {M : Type 1} → statement M

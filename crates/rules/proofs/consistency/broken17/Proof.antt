@@ -11,12 +11,13 @@ returns c = search ways
 
 returns-2 : tie.Need-returns-2
 unfolding broken17
-returns-2 c = 
-    rw
-    (c .write-ident .ensures,
-    c .before .latest .ensures,
-    c .before .before .seen .ensures,
-    equal _ (c .before .before .before .before .kind .ensures) (c .before .before .before .if1 .left))
+returns-2 c =
+    rw (
+      c .write-ident .ensures,
+      c .before .latest .ensures,
+      c .before .before .seen .ensures,
+      equal _ (c .before .before .before .before .kind .ensures) (c .before .before .before .if1 .left),
+    )
 
 pub broken17-spec : {M : Type 1} → statement M
 broken17-spec =

@@ -1,17 +1,18 @@
 -- `rules::consistency::write_ident` meets its contract.
+use mathlib.Core.Path.{refl}
 use borrow.Author.Needs.{needs}
 use Rattle.model.specs.Rules.{write-ident}
-use Rattle.rules.proofs.Ways.{above, not-above}
+use Rattle.rules.proofs.Ways.{lower, not-lower}
 use Rattle.rules.proofs.consistency.write_ident.Statement.{statement}
 use Rattle.rules.proofs.consistency.write_ident.Tie as tie
 
 returns : tie.Need-returns
 unfolding write-ident
-returns c = rw (above _ (c .before .before .size .ensures) (c .before .if1 .taken)) (c .ident .ensures)
+returns c = rw (lower _ _ refl (c .before .before .size .ensures) (c .before .if1 .taken)) (c .ident .ensures)
 
 returns-2 : tie.Need-returns-2
 unfolding write-ident
-returns-2 c = rw (← not-above _ (c .before .size .ensures) (c .if1 .left))
+returns-2 c = rw (← not-lower _ _ refl (c .before .size .ensures) (c .if1 .left))
 
 pub write-ident-spec : {M : Type 1} → statement M
 write-ident-spec =

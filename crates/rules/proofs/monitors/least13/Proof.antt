@@ -29,17 +29,18 @@ loop-holds : tie.Need-loop-holds Inv-loop μ-loop
 loop-holds c = (omega arith, kept-none (pass (c .before .before .before .args .x .now)) none)
 
 loop-again : tie.Need-loop-again Inv-loop μ-loop
-loop-again c =
-    (omega arith,
-    ⊎-elim
-    (λ w.
-        rw (w .3, w .4, c .before .place .ensures)
-        (kept-take s none a m v k (sym (w .1 .ensures) ∙ w .2 .taken)
-        (lt-ltb (place x a) v (omega (arith, w .0 .taken)))))
-    (⊎-elim
-    (λ w. rw (w .3, w .4) (keep (rw (← w .1 .ensures, w .2 .left))))
-    (λ w. rw (w .1, w .2) (keep (rw (le-ltb (place x a) v (omega (arith, w .0 .left))) (and-false (broken13 x a))))))
-    (c .if1 .came))
+loop-again c = (
+  omega arith,
+  ⊎-elim
+      (λ w.
+      rw (w .3, w .4, c .before .place .ensures)
+      (kept-take s none a m v k (sym (w .1 .ensures) ∙ w .2 .taken)
+      (lt-ltb (place x a) v (omega (arith, w .0 .taken)))))
+      (⊎-elim
+      (λ w. rw (w .3, w .4) (keep (rw (← w .1 .ensures, w .2 .left))))
+      (λ w. rw (w .1, w .2) (keep (rw (le-ltb (place x a) v (omega (arith, w .0 .left))) (and-false (broken13 x a))))))
+      (c .if1 .came),
+)
   where
     x : List ℕ
     x = c .before .before .before .before .before .before .before .args .x .now

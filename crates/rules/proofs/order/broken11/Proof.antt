@@ -1,6 +1,7 @@
 -- `rules::order::broken11` meets its contract.
 use borrow.Author.Needs.{needs}
 use Rattle.model.specs.Rules.{broken11}
+use Rattle.rules.specs.Tests.{holds}
 use Rattle.rules.proofs.Ways.{ways}
 use Rattle.rules.proofs.order.broken11.Statement.{statement}
 use Rattle.rules.proofs.order.broken11.Tie as tie
@@ -14,8 +15,8 @@ unfolding broken11
 returns-2 c = search ways
 
 returns-3 : tie.Need-returns-3
-unfolding broken11
-returns-3 c = rw (← c .before .before .place .ensures) (search ways)
+unfolding broken11 holds
+returns-3 c = let e = rw (c .before .load .ensures) at (c .any .ensures) in search (ways, e)
 
 pub broken11-spec : {M : Type 1} → statement M
 broken11-spec =
@@ -25,5 +26,6 @@ broken11-spec =
     returns
     (λ c κs. search needs)
     returns-2
+    (λ c κs. search needs)
     (λ c κs. search needs)
     returns-3)

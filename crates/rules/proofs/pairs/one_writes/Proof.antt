@@ -8,6 +8,7 @@ pub one-writes-spec : {M : Type 1} → statement M
 one-writes-spec =
     tie.close
     (tie.spec
+    (λ c κs. search needs)
     (λ c. search ways)
     (λ c κs. search needs)
     (λ c. search ways))

@@ -13,10 +13,10 @@ use Rattle.rules.proofs.search.any.Statement.{statement}
 use Rattle.rules.proofs.search.any.Tie as tie
 
 abbrev Inv-loop : tie.InvT-loop
-Inv-loop x part t to b₀ b = (b ≤ to) × (any b (holds (bit rowWords part) x t) ≡ false)
+Inv-loop x part t own to b₀ b = (b ≤ to) × (any b (holds (bit rowWords part) x t own) ≡ false)
 
 abbrev μ-loop : tie.MeasureT-loop
-μ-loop x part t to b₀ b = to - b
+μ-loop x part t own to b₀ b = to - b
 
 loop-holds : tie.Need-loop-holds Inv-loop μ-loop
 loop-holds c = (omega arith, any-none _)

@@ -14,10 +14,10 @@ use Rattle.rules.proofs.search.count.Statement.{statement}
 use Rattle.rules.proofs.search.count.Tie as tie
 
 abbrev Inv-loop : tie.InvT-loop
-Inv-loop x part t n passed₀ b₀ passed b = (b ≤ n) × (passed ≤ b) × (passed ≡ count b (holds (bit rowWords part) x t))
+Inv-loop x part t own n passed₀ b₀ passed b = (b ≤ n) × (passed ≤ b) × (passed ≡ count b (holds (bit rowWords part) x t own))
 
 abbrev μ-loop : tie.MeasureT-loop
-μ-loop x part t n passed₀ b₀ passed b = n - b
+μ-loop x part t own n passed₀ b₀ passed b = n - b
 
 loop-holds : tie.Need-loop-holds Inv-loop μ-loop
 loop-holds c = (omega arith, omega arith, sym (count-none _))
@@ -31,7 +31,7 @@ loop-again c =
     test : ℕ → Bool
     test =
         let start = c .before .before .before .before .before .before in
-        holds (bit rowWords (start .args .part .now)) (start .args .x .now) (start .args .t)
+        holds (bit rowWords (start .args .part .now)) (start .args .x .now) (start .args .t) (start .args .own)
 
     more : count (c .before .before .before .loop .b + 1) test ≡ count (c .before .before .before .loop .b) test + cond (test (c .before .before .before .loop .b)) 1 0
     more = count-more test (c .before .before .before .loop .b)

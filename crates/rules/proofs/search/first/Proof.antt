@@ -13,10 +13,10 @@ use Rattle.rules.proofs.search.first.Statement.{statement}
 use Rattle.rules.proofs.search.first.Tie as tie
 
 abbrev Inv-loop : tie.InvT-loop
-Inv-loop x part t n b₀ b = (b ≤ n) × (any b (holds (bit rowWords part) x t) ≡ false)
+Inv-loop x part t own n b₀ b = (b ≤ n) × (any b (holds (bit rowWords part) x t own) ≡ false)
 
 abbrev μ-loop : tie.MeasureT-loop
-μ-loop x part t n b₀ b = n - b
+μ-loop x part t own n b₀ b = n - b
 
 loop-holds : tie.Need-loop-holds Inv-loop μ-loop
 loop-holds c = (omega arith, any-none _)

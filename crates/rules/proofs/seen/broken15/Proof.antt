@@ -1,6 +1,7 @@
 -- `rules::seen::broken15` meets its contract.
 use borrow.Author.Needs.{needs}
 use Rattle.model.specs.Rules.{rival, broken15}
+use Rattle.rules.specs.Tests.{holds}
 use Rattle.rules.proofs.Ways.{ways}
 use Rattle.rules.proofs.seen.broken15.Statement.{statement}
 use Rattle.rules.proofs.seen.broken15.Tie as tie
@@ -14,9 +15,9 @@ unfolding broken15
 returns-2 c = search ways
 
 returns-3 : tie.Need-returns-3
-unfolding broken15 rival
-returns-3 c = 
-    rw (← c .before .before .before .before .seen .ensures, ← c .before .before .target .ensures, ← c .before .size .ensures) (search ways)
+unfolding broken15 rival holds
+returns-3 c =
+    let e = rw (c .before .before .load .ensures, c .before .size .ensures) at (c .any .ensures) in search (ways, e)
 
 pub broken15-spec : {M : Type 1} → statement M
 broken15-spec =

@@ -1,10 +1,9 @@
 -- `rules::seen::broken16` meets its contract: values are compared by their bits.
 use borrow.Author.Needs.{needs}
 use lib.IntN.{pos}
-use Rattle.model.specs.Rules.{seen-value, broken16}
+use Rattle.model.specs.Rules.{seen-at, seen-value, broken16}
 use Rattle.rules.proofs.Values.{bits-same}
 use Rattle.rules.proofs.Ways.{ways, flag-on, equal, unequal}
-use mathlib.Core.Path.{sym}
 use Rattle.rules.proofs.seen.broken16.Statement.{statement}
 use Rattle.rules.proofs.seen.broken16.Tie as tie
 
@@ -14,23 +13,26 @@ returns c = search ways
 
 returns-2 : tie.Need-returns-2
 unfolding broken16 seen-value
-returns-2 c = 
-    rw
-    (bits-same (c .before .before .value .result) (pos 0) (search needs) (search needs),
-    c .before .before .value .ensures,
-    flag-on (c .before .before .before .before .read .ensures) (c .before .before .before .if1 .left),
-    equal _ (c .before .seen .ensures) (c .if2 .taken))
+returns-2 c =
+    rw (
+      bits-same (c .before .before .value .result) (pos 0) (search needs) (search needs),
+      c .before .before .value .ensures,
+      flag-on (c .before .before .before .before .read .ensures) (c .before .before .before .if1 .left),
+      equal _ (c .before .seen .ensures) (c .if2 .taken),
+    )
 
 returns-3 : tie.Need-returns-3
-unfolding broken16 seen-value
-returns-3 c = 
-    rw
-    (bits-same (c .before .before .before .before .value .result) (c .value2 .result) (search needs) (search needs),
-    c .before .before .before .before .value .ensures,
-    c .value2 .ensures,
-    c .before .seen-at .ensures,
-    flag-on (c .before .before .before .before .before .before .read .ensures) (c .before .before .before .before .before .if1 .left),
-    ← unequal _ (c .before .before .before .seen .ensures) (c .before .before .if2 .left))
+unfolding broken16 seen-value seen-at
+returns-3 c =
+    rw (
+      bits-same (c .before .before .before .before .before .value .result) (c .value2 .result) (search needs) (search needs),
+      c .before .before .before .before .before .value .ensures,
+      c .value2 .ensures,
+      c .before .seen-by .ensures,
+      c .before .before .load .ensures,
+      flag-on (c .before .before .before .before .before .before .before .read .ensures) (c .before .before .before .before .before .before .if1 .left),
+      ← unequal _ (c .before .before .before .before .seen .ensures) (c .before .before .before .if2 .left),
+    )
 
 pub broken16-spec : {M : Type 1} → statement M
 broken16-spec =
@@ -41,6 +43,7 @@ broken16-spec =
     (λ c κs. search needs)
     (λ c κs. search needs)
     returns-2
+    (λ c κs. search needs)
     (λ c κs. search needs)
     (λ c κs. search needs)
     returns-3)

@@ -15,7 +15,7 @@ returns-2 c = rw (← c .before .before .before .before .first-of .ensures) (sea
 
 returns-3 : tie.Need-returns-3
 unfolding begun
-returns-3 c = rw (← c .before .before .before .before .before .first-of .ensures) (search ways)
+returns-3 c = rw (← c .before .before .before .before .before .before .first-of .ensures) (search ways)
 
 pub begun-spec : {M : Type 1} → statement M
 begun-spec =

@@ -1,0 +1,14 @@
+-- `rules::pairs::seen_write` meets its contract.
+use borrow.Author.Needs.{needs}
+use Rattle.rules.proofs.Ways.{ways}
+use Rattle.rules.proofs.pairs.seen_write.Statement.{statement}
+use Rattle.rules.proofs.pairs.seen_write.Tie as tie
+
+pub seen-write-spec : {M : Type 1} → statement M
+seen-write-spec =
+    tie.close
+    (tie.spec
+    (λ c κs. search needs)
+    (λ c. search ways)
+    (λ c κs. search needs)
+    (λ c. search ways))

@@ -1,0 +1,2 @@
+-- Demand 3, from the answer of order.
+pub mod Order

@@ -1,6 +1,6 @@
 // The fields of a record and of a section, read from their bytes in place. A byte past the end reads as 0, so every accessor takes every input.
 ghost use mathlib.Core.Path.{_≡_};
-ghost use Prim.Native.Nat.{_<_};
+ghost use Prim.Native.Nat.{_+_, _*_, _<_};
 ghost use mir.Syntax.{w64};
 ghost use mir.Val.{toZ};
 ghost use Rattle.model.specs.Layout.{byte, two, eight, version, threads, variables, monitors, K, volatile, size, ident, thread, kind, target, commit, place, seen, unused, value};
@@ -15,11 +15,23 @@ pub fn byte(r: &[u8], i: u32) -> u8
     if at < r.len() { r[at] } else { 0 }
 }
 
+fn joined(low: u8, high: u8) -> u16
+    ensures { λ b. ⌜ b ≡ low + 256 * high ⌝ }
+{
+    low as u16 + 256 * (high as u16)
+}
+
+// Where both bytes are there, one test and one load.
 fn two(r: &[u8], i: u32) -> u16
     requires { ⌜ i < 4294967295 ⌝ }
     ensures { λ b. ⌜ b ≡ two (now (r .entry)) i ⌝ }
 {
-    byte(r, i) as u16 + 256 * (byte(r, i + 1) as u16)
+    let at = i as usize;
+    if at + 1 < r.len() {
+        joined(r[at], r[at + 1])
+    } else {
+        joined(byte(r, i), byte(r, i + 1))
+    }
 }
 
 fn eight(r: &[u8], i: u32) -> u64

@@ -10,7 +10,7 @@ use fields::place;
 use fields::size;
 use fields::target;
 use fields::thread;
-use model::row_of;
+use table::row_of;
 
 // The words of a part, and the most actions of a section.
 const PART: usize = 256;

@@ -28,7 +28,7 @@ use fields::target;
 use fields::thread;
 use fields::value;
 use model::Answer;
-use model::row_of;
+use table::row_of;
 
 fn read(x: &[u8], a: u16) -> bool
     ensures { λ r. ⌜ r ≡ read (now (x .entry)) a ⌝ }

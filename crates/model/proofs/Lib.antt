@@ -5,4 +5,3 @@ pub mod Bench
 pub mod Serial
 pub mod Closure
 pub mod Settles
-pub mod Unique

@@ -248,7 +248,7 @@ fn fielded(r: &[u8], s: u8, x: &[u8], a: u16) -> bool
     if fields::thread(x, a) >= fields::threads(r) {
         return false;
     }
-    let k = model::row_of(fields::kind(x, a));
+    let k = table::row_of(fields::kind(x, a));
     if !targeted(r, k, fields::target(x, a)) {
         return false;
     }

@@ -7,19 +7,19 @@ ghost use Rattle.model.specs.Relations.{plain};
 pub fn sync(x: &[u8], a: u16) -> bool
     ensures { λ r. ⌜ r ≡ sync (now (x .entry)) a ⌝ }
 {
-    model::row_of(fields::kind(x, a)).sync
+    table::row_of(fields::kind(x, a)).sync
 }
 
 pub fn read(x: &[u8], a: u16) -> bool
     ensures { λ r. ⌜ r ≡ read (now (x .entry)) a ⌝ }
 {
-    model::row_of(fields::kind(x, a)).read
+    table::row_of(fields::kind(x, a)).read
 }
 
 pub fn writes(kind: u8) -> bool
     ensures { λ r. ⌜ r ≡ kindRow kind .write ⌝ }
 {
-    model::row_of(kind).write
+    table::row_of(kind).write
 }
 
 pub fn write(x: &[u8], a: u16) -> bool

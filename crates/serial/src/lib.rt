@@ -14,7 +14,7 @@ const THREADS: usize = 16;
 fn sync(x: &[u8], a: u16) -> bool
     ensures { λ r. ⌜ r ≡ sync (now (x .entry)) a ⌝ }
 {
-    model::row_of(fields::kind(x, a)).sync
+    table::row_of(fields::kind(x, a)).sync
 }
 
 // Thread t's first action from position `at` on; the section's size where there is none.

@@ -1,13 +1,13 @@
--- `model::row_of` meets its contract: each arm is a row of the definitions' table, and past its end stands row 0.
+-- `table::row_of` meets its contract: each arm is a row of the definitions' table, and past its end stands row 0.
 use Prim.Native.Nat.{ℕ, zero, suc, _≤_}
 use native.Mathlib.Omega.{arith}
 use mathlib.Core.Path.{_≡_, refl, sym}
 use lib.ListN.{List·getD-eq-default}
 use borrow.Author.Needs.{needs}
 use Rattle.model.specs.declared.Kind.{Kind}
 use Rattle.model.specs.Kinds.{kindRow, kinds, noKind}
-use Rattle.model.proofs.row_of.Statement.{statement}
-use Rattle.model.proofs.row_of.Tie as tie
+use Rattle.table.proofs.row_of.Statement.{statement}
+use Rattle.table.proofs.row_of.Tie as tie
 
 -- a number up to n that is none of 1 to n is 0
 data None : ℕ → ℕ → Type 0 where

@@ -1,16 +1,18 @@
 -- The refusal, stage by stage: a number that is given ends it, and one that is not leaves the numbers after it.
-use Prim.Native.Nat.{ℕ, _<_, _≤_}
+use Prim.Native.Nat.{ℕ, _+_, _<_, _≤_}
+use native.Mathlib.Omega.{arith}
 use mathlib.Core.Path.{_≡_, refl}
 use mathlib.Core.List.{List}
-use mathlib.Core.Bool.{true, false, not, _||_}
+use mathlib.Core.Bool.{Bool, true, false, not, _||_}
 use lib.ListN.{length}
 use lib.Dec.{eqb, ltb}
 use borrow.Author.Tests.{lt-ltb, le-ltb, ltb-false, eq-eqb, ne-eqb}
 use Rattle.model.specs.Search.{any, none}
-use Rattle.model.specs.Answers.{answer, _then_}
-use Rattle.model.specs.Layout.{byte, mark, version, threads, variables, monitors, K}
+use Rattle.model.specs.Answers.{answer, pass, upTo, _then_}
+use Rattle.model.specs.Layout.{byte, mark, version, threads, variables, monitors, K, section}
 use Rattle.model.specs.Refused.{unmarked, out-of-range, rule5, rule6, rule7, sections, refusal}
-use Rattle.record.specs.Sections.{stray, broken}
+use Rattle.model.proofs.Answers.{clean-rule}
+use Rattle.record.specs.Sections.{stray, checked}
 use Rattle.record.proofs.Neither.{neither}
 
 module _ (r : List ℕ) where
@@ -24,14 +26,20 @@ module _ (r : List ℕ) where
       let before = ltb (threads r) 1 || ltb 16 (threads r) || ltb 64 (variables r) || ltb 32 (monitors r) in
       ltb-false 8 (K r) (neither before (ltb 8 (K r)) (neither (before || ltb 8 (K r)) (any 64 (stray r)) h .0) .1)
 
-  -- 6 and 7 are one search over the sections
-  pub sections-6 : sections 6 r (broken 6 r) ≡ rule6 r
-  unfolding rule6 broken
-  sections-6 = refl
+  -- the section checks are numbers 6 and 7
+  pub checked-6 : upTo (K r + 1) (λ s. checked true r s (section r s)) ≡ rule6 r
+  unfolding rule6 sections checked
+  checked-6 = refl
 
-  pub sections-7 : sections 7 r (broken 7 r) ≡ rule7 r
-  unfolding rule7 broken
-  sections-7 = refl
+  pub checked-7 : upTo (K r + 1) (λ s. checked false r s (section r s)) ≡ rule7 r
+  unfolding rule7 sections checked
+  checked-7 = refl
+
+  -- a section check that answers 0 says nothing
+  pub clean-checked : (six : Bool) (s : ℕ) (x : List ℕ) → checked six r s x .n ≡ 0 → checked six r s x ≡ pass
+  unfolding checked
+  clean-checked true s x h = clean-rule 6 s _ _ (omega arith) h
+  clean-checked false s x h = clean-rule 7 s _ _ (omega arith) h
 
 module _ (r : List ℕ) (need lent : ℕ) where
   pub refusal-1 : unmarked r ≡ true → refusal r need lent ≡ answer 1 0 none none

@@ -3,12 +3,12 @@ use Prim.Native.Nat.{ℕ, suc, _+_, min}
 use mathlib.Core.List.{List}
 use mathlib.Core.Bool.{Bool, not, cond, _&&_, _||_}
 use lib.ListN.{length}
-use lib.Dec.{eqb, ltb, leb}
-use lib.IntN.{pos}
+use lib.Dec.{ltb, leb}
 use Rattle.model.specs.Limits.{maxActions}
-use Rattle.model.specs.Layout.{two, past, start, variables, volatile, seen, unused, value, sameℤ}
+use Rattle.model.specs.Layout.{two, past, start, size, variables, volatile}
 use Rattle.model.specs.Refused.{fielded, met}
-use Rattle.model.specs.declared.Kind.{Kind}
+use Rattle.model.specs.declared.Answer.{Answer}
+use Rattle.model.specs.Answers.{rule}
 use Rattle.record.specs.declared.Span.{Span}
 
 -- section s as far as the record has it
@@ -23,11 +23,6 @@ stray r v = leb (variables r) v && volatile r v
 unfoldable pub cut-at : List ℕ → ℕ → Bool
 cut-at r p = ltb (length r) (p + 2) || ltb maxActions (two r p) || ltb (length r) (past r p)
 
--- action a of a section x carries what its row k of the table of kinds lets it
-unfoldable pub carried : List ℕ → Kind → ℕ → Bool
-carried x k a =
-    (k .read || eqb (seen x a) 0) && eqb (unused x a) 0 && (k .read || k .write || sameℤ (value x a) (pos 0))
-
--- number 6, or else 7, is given for action a of section s, whose bytes are x
-unfoldable pub broken : ℕ → List ℕ → ℕ → List ℕ → ℕ → Bool
-broken N r s x a = cond (eqb N 6) (not (fielded r s x a)) (met x a)
+-- the section check of section s, whose bytes are x: 6, or else 7
+unfoldable pub checked : Bool → List ℕ → ℕ → List ℕ → Answer
+checked six r s x = cond six (rule 6 s (size x) (λ a. not (fielded r s x a))) (rule 7 s (size x) (met x))

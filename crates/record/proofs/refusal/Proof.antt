@@ -8,7 +8,7 @@ use Rattle.model.specs.Answers.{_then_}
 use Rattle.model.specs.Layout.{version, K}
 use Rattle.model.specs.Refused.{unmarked, out-of-range, rule5, rule6, rule7, refusal}
 use Rattle.model.proofs.Answers.{then-next, then-ends}
-use Rattle.record.proofs.Stages.{long, few, sections-6, sections-7, refusal-1, refusal-2, refusal-3, refusal-4, refusal-5}
+use Rattle.record.proofs.Stages.{long, few, checked-6, checked-7, refusal-1, refusal-2, refusal-3, refusal-4, refusal-5}
 use Rattle.record.proofs.refusal.Statement.{statement}
 use Rattle.record.proofs.refusal.Tie as tie
 
@@ -80,7 +80,7 @@ whole c =
     staged (l .before) ∙ then-next (rule5 r) (rule6 r then rule7 r) (rw (l .lengths .ensures) at (c .if5 .left))
 
 sixth : (c : tie.After-sections) → c .sections .result ≡ rule6 (c .before .before .before .before .before .before .before .before .before .before .before .before .args .r .now)
-sixth c = c .sections .ensures ∙ sections-6 (c .before .before .before .before .before .before .before .before .before .before .before .before .args .r .now)
+sixth c = c .sections .ensures ∙ checked-6 (c .before .before .before .before .before .before .before .before .before .before .before .before .args .r .now)
 
 returns-6 : tie.Need-returns-6
 returns-6 c =
@@ -92,7 +92,7 @@ returns-7 : tie.Need-returns-7
 returns-7 c =
     let l = c .before .before .before in
     let r = l .before .before .before .before .before .before .before .before .before .before .before .before .args .r .now in
-    c .sections2 .ensures ∙ sections-7 r ∙ sym (whole (l .before) ∙ then-next (rule6 r) (rule7 r) (rw (sixth l) at (c .before .if6 .left)))
+    c .sections2 .ensures ∙ checked-7 r ∙ sym (whole (l .before) ∙ then-next (rule6 r) (rule7 r) (rw (sixth l) at (c .before .if6 .left)))
 
 pub refusal-spec : {M : Type 1} → statement M
 refusal-spec =
@@ -111,7 +111,7 @@ refusal-spec =
     returns-4
     lengths-requires
     returns-5
-    (λ c κs. (omega arith, enough (c .before .before .before)))
+    (λ c κs. enough (c .before .before .before))
     returns-6
-    (λ c κs. (omega arith, enough (c .before .before .before .before .before .before)))
+    (λ c κs. enough (c .before .before .before .before .before .before))
     returns-7)

@@ -3,29 +3,30 @@ use Prim.Native.Nat.{ℕ, _+_, _-_, _≤_}
 use native.Mathlib.Omega.{arith}
 use mathlib.Core.Path.{_≡_, sym, _∙_}
 use mathlib.Core.List.{List}
+use mathlib.Core.Bool.{Bool}
 use lib.ListN.{length}
 use borrow.Author.Needs.{needs}
 use Rattle.model.specs.declared.Answer.{Answer}
-use Rattle.model.specs.Answers.{pass, rule, upTo}
-use Rattle.model.specs.Layout.{section, size, K}
-use Rattle.model.specs.Refused.{sections}
-use Rattle.model.proofs.Answers.{upTo-none, upTo-pass, upTo-at, clean-rule}
-use Rattle.record.specs.Sections.{broken}
+use Rattle.model.specs.Answers.{pass, upTo}
+use Rattle.model.specs.Layout.{section, K}
+use Rattle.model.proofs.Answers.{upTo-none, upTo-pass, upTo-at}
+use Rattle.record.specs.Sections.{checked}
 use Rattle.record.proofs.Parts.{span-section, span-low, span-high}
+use Rattle.record.proofs.Stages.{clean-checked}
 use Rattle.record.proofs.sections.Statement.{statement}
 use Rattle.record.proofs.sections.Tie as tie
 
-abbrev turn : ℕ → List ℕ → ℕ → Answer
-turn N r s = rule N s (size (section r s)) (broken N r s (section r s))
+abbrev turn : Bool → List ℕ → ℕ → Answer
+turn six r s = checked six r s (section r s)
 
 abbrev Inv-loop : tie.InvT-loop
-Inv-loop r number s₀ s-end s = (s ≤ K r + 1) × (upTo s (turn number r) ≡ pass)
+Inv-loop r six s₀ s-end s = (s ≤ K r + 1) × (upTo s (turn six r) ≡ pass)
 
 abbrev μ-loop : tie.MeasureT-loop
-μ-loop r number s₀ s-end s = K r + 1 - s
+μ-loop r six s₀ s-end s = K r + 1 - s
 
 loop-holds : tie.Need-loop-holds Inv-loop μ-loop
-loop-holds c = let p = c .before .before .args in (search needs, upTo-none (turn (p .number) (p .r .now)))
+loop-holds c = let p = c .before .before .args in (search needs, upTo-none (turn (p .six) (p .r .now)))
 
 -- the section check is of the section
 low : (c : tie.After-bounds Inv-loop μ-loop) → c .bounds .result .at ≤ c .bounds .result .end
@@ -34,7 +35,7 @@ low c = span-low (c .before .before .before .before .before .args .r .now) (c .b
 high : (c : tie.After-bounds Inv-loop μ-loop) → c .bounds .result .end ≤ length (c .before .before .before .before .before .args .r .now)
 high c = span-high (c .before .before .before .before .before .args .r .now) (c .before .before .loop .s) (c .bounds .result) (c .bounds .ensures)
 
-turned : (c : tie.After-checked Inv-loop μ-loop) → let p = c .before .before .before .before .before .before .before .args in c .checked .result ≡ turn (p .number) (p .r .now) (c .before .before .before .before .loop .s)
+turned : (c : tie.After-checked Inv-loop μ-loop) → let p = c .before .before .before .before .before .before .before .args in c .checked .result ≡ turn (p .six) (p .r .now) (c .before .before .before .before .loop .s)
 turned c =
     let b = c .before .before in
     let l = b .before .before in
@@ -42,13 +43,12 @@ turned c =
     at (c .checked .ensures)
 
 returns : tie.Need-returns Inv-loop μ-loop
-unfolding sections
 returns c =
     let l = c .before .before .before .before .before .before in
     let p = l .before .before .before .args in
     let e = turned (c .before .before) in
     e
-    ∙ sym (upTo-at (turn (p .number) (p .r .now)) (K (p .r .now) + 1) (l .loop .s) (omega arith) (l .loop .inv .1) (rw e at (c .if1 .taken)))
+    ∙ sym (upTo-at (turn (p .six) (p .r .now)) (K (p .r .now) + 1) (l .loop .s) (omega arith) (l .loop .inv .1) (rw e at (c .if1 .taken)))
 
 loop-again : tie.Need-loop-again Inv-loop μ-loop
 loop-again c =
@@ -56,11 +56,10 @@ loop-again c =
     let p = l .before .before .before .args in
     let e = turned (c .before .before) in (
       omega arith,
-      upTo-pass (turn (p .number) (p .r .now)) (l .loop .s) (l .loop .inv .1) (clean-rule (p .number) (l .loop .s) _ _ (omega arith) (rw e at (c .if1 .left))),
+      upTo-pass (turn (p .six) (p .r .now)) (l .loop .s) (l .loop .inv .1) (clean-checked (p .r .now) (p .six) (l .loop .s) _ (rw e at (c .if1 .left))),
     )
 
 returns-2 : tie.Need-returns-2 Inv-loop μ-loop
-unfolding sections
 returns-2 c =
     let l = c .before .before in
     let p = l .before .before .before .args in

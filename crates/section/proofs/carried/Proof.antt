@@ -1,13 +1,13 @@
--- `record::carried` meets its contract.
+-- `section::carried` meets its contract.
 use mathlib.Core.Bool.{_||_, and-false}
 use lib.Dec.{eqb}
 use borrow.Author.Needs.{needs}
 use borrow.Author.Tests.{eq-eqb, ne-eqb}
 use Rattle.model.specs.Layout.{seen}
-use Rattle.record.specs.Sections.{carried}
-use Rattle.record.proofs.Signed.{zero-bits}
-use Rattle.record.proofs.carried.Statement.{statement}
-use Rattle.record.proofs.carried.Tie as tie
+use Rattle.section.specs.Fields.{carried}
+use Rattle.section.proofs.Signed.{zero-bits}
+use Rattle.section.proofs.carried.Statement.{statement}
+use Rattle.section.proofs.carried.Tie as tie
 
 returns : tie.Need-returns
 unfolding carried

@@ -1,4 +1,4 @@
--- `record::fielded` meets its contract.
+-- `section::fielded` meets its contract.
 use native.Mathlib.Omega.{arith}
 use mathlib.Core.Path.{_≡_, sym, _∙_}
 use mathlib.Core.Bool.{not, Bool·beq}
@@ -6,9 +6,9 @@ use lib.Dec.{eqb}
 use borrow.Author.Needs.{needs}
 use borrow.Author.Tests.{eq-eqb, ne-eqb, lt-ltb, le-ltb, not-true, not-false}
 use Rattle.model.specs.Layout.{threads, ident, thread}
-use Rattle.record.proofs.Tables.{aimed, timed, placed, unnamed, unthreaded, unaimed, untimed, unplaced, all-hold}
-use Rattle.record.proofs.fielded.Statement.{statement}
-use Rattle.record.proofs.fielded.Tie as tie
+use Rattle.section.proofs.Tables.{aimed, timed, placed, unnamed, unthreaded, unaimed, untimed, unplaced, all-hold}
+use Rattle.section.proofs.fielded.Statement.{statement}
+use Rattle.section.proofs.fielded.Tie as tie
 
 -- what the tests come to, of the arguments: the target's, the commit number's, the place's
 aim : (c : tie.After-targeted) → let p = c .before .before .before .before .before .before .before .before .before .before .before .args in c .targeted .result ≡ aimed (p .r .now) (p .s) (p .x .now) (p .a)

@@ -1,10 +1,10 @@
--- `record::targeted` meets its contract: in each arm the class settles every test of a class.
+-- `section::targeted` meets its contract: in each arm the class settles every test of a class.
 use mathlib.Core.Bool.{or-false}
 use borrow.Author.Needs.{needs}
 use borrow.Author.Tests.{ne-eqb}
 use Rattle.model.specs.Refused.{targeted}
-use Rattle.record.proofs.targeted.Statement.{statement}
-use Rattle.record.proofs.targeted.Tie as tie
+use Rattle.section.proofs.targeted.Statement.{statement}
+use Rattle.section.proofs.targeted.Tie as tie
 
 returns : tie.Need-returns
 unfolding targeted

@@ -6,7 +6,7 @@ use mathlib.Core.Bool.{Bool, true, false, not, _&&_, Bool·beq, and-false}
 use lib.Dec.{eqb, ltb}
 use Rattle.model.specs.Layout.{threads, K, ident, thread, target, commit, place, row, sync}
 use Rattle.model.specs.Refused.{targeted, committed-in, fielded}
-use Rattle.record.specs.Sections.{carried}
+use Rattle.section.specs.Fields.{carried}
 
 module _ (r : List ℕ) (s : ℕ) (x : List ℕ) (a : ℕ) where
   abbrev pub named : Bool

@@ -1,8 +1,8 @@
--- `record::variable` meets its contract.
+-- `section::variable` meets its contract.
 use borrow.Author.Needs.{needs}
 use borrow.Author.Tests.{lt-ltb, le-ltb}
-use Rattle.record.proofs.variable.Statement.{statement}
-use Rattle.record.proofs.variable.Tie as tie
+use Rattle.section.proofs.variable.Statement.{statement}
+use Rattle.section.proofs.variable.Tie as tie
 
 returns : tie.Need-returns
 returns c = rw (← c .before .variables .ensures, le-ltb _ _ (c .if1 .taken))

@@ -1,0 +1,3 @@
+-- What the section check's own functions come to.
+pub mod Fields
+pub mod Map

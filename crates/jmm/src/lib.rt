@@ -10,6 +10,7 @@ ghost use Rattle.model.specs.Justified.{committing};
 ghost use Rattle.model.specs.WorkArea.{filled};
 ghost use Rattle.model.specs.Questions.{judged, verdict, verdict-words, race-of, race, race-words, order-refusal, order-of, order, order-words, order-list};
 ghost use Rattle.jmm.specs.Accepted.{Accepted, Filled};
+use answers::numbered;
 use model::Answer;
 use record::bounds;
 use record::refusal;
@@ -19,26 +20,12 @@ const PART: usize = 256;
 
 const WORDS: usize = 2304;
 
-const NONE: u16 = 65535;
-
-// The answer of a number that names nothing.
-fn plain(n: u8) -> Answer
-    ensures { λ r. ⌜ r ≡ Rattle.model.specs.Answers.answer n 0 65535 65535 ⌝ }
+// Fills the parts of the first `parts` sections.
+fn fill_parts(record: &[u8], work: &mut [u64], parts: u8)
+    requires { ⌜ Accepted (now «record») parts (length (now work)) ⌝ }
+    ensures { λ r. ⌜ now (work .exit) ≡ filled (now («record» .entry)) parts (now (work .entry)) ⌝ }
 {
-    Answer {
-        n,
-        s: 0,
-        a: NONE,
-        b: NONE,
-    }
-}
-
-// Fills the parts of the first n sections.
-fn fill_parts(record: &[u8], work: &mut [u64], n: u8)
-    requires { ⌜ Accepted (now «record») n (length (now work)) ⌝ }
-    ensures { λ r. ⌜ now (work .exit) ≡ filled (now («record» .entry)) n (now (work .entry)) ⌝ }
-{
-    for s in 0..n {
+    for s in 0..parts {
         let x = bounds(record, s);
         let at = x.at;
         let end = x.end;
@@ -64,7 +51,7 @@ fn sections(record: &[u8], work: &[u64], n: u8) -> Answer
             return broken;
         }
     }
-    plain(0)
+    numbered(0, 0)
 }
 
 // 21 to 29 for i from 1 to k.
@@ -81,7 +68,7 @@ fn sequence(record: &[u8], work: &[u64], k: u8) -> Answer
             return broken;
         }
     }
-    plain(0)
+    numbered(0, 0)
 }
 
 fn judge(record: &[u8], work: &[u64]) -> Answer
@@ -98,9 +85,9 @@ fn judge(record: &[u8], work: &[u64]) -> Answer
         return justified;
     }
     if k == 0 {
-        return plain(10);
+        return numbered(10, 0);
     }
-    plain(0)
+    numbered(0, 0)
 }
 
 // Is the execution well-formed, and justified by the committing sequence in the record?
@@ -156,9 +143,9 @@ fn order_refusal(record: &[u8], lent: usize, room: usize) -> Answer
     let at = x.at;
     let end = x.end;
     if room < fields::size(&record[at..end]) as usize {
-        return plain(8);
+        return numbered(8, 0);
     }
-    plain(0)
+    numbered(0, 0)
 }
 
 fn order_in(record: &[u8], work: &[u64]) -> Answer
@@ -186,15 +173,15 @@ pub fn order(record: &[u8], work: &mut [u64], list: &mut [u16]) -> Answer
         return refused;
     }
     fill_parts(record, work, 1);
-    let broken = order_in(record, work);
-    if broken.n != 0 {
-        return broken;
+    let judged = order_in(record, work);
+    if judged.n != 0 {
+        return judged;
     }
     let x = bounds(record, 0);
     let at = x.at;
     let end = x.end;
     serial::serial(&record[at..end], list);
-    broken
+    judged
 }
 
 // N + 2^8 S + 2^16 A + 2^32 B.

@@ -11,10 +11,10 @@ use Rattle.jmm.proofs.fill_parts.Statement.{statement}
 use Rattle.jmm.proofs.fill_parts.Tie as tie
 
 abbrev Inv-loop : tie.InvT-loop
-Inv-loop «record» work₀ n s₀ work s = (s ≤ n) × (work ≡ filled «record» s work₀)
+Inv-loop «record» work₀ parts s₀ work s = (s ≤ parts) × (work ≡ filled «record» s work₀)
 
 abbrev μ-loop : tie.MeasureT-loop
-μ-loop «record» work₀ n s₀ work s = n - s
+μ-loop «record» work₀ parts s₀ work s = parts - s
 
 loop-holds : tie.Need-loop-holds Inv-loop μ-loop
 loop-holds c = (omega arith, sym (filled-none _ _))
@@ -48,7 +48,7 @@ same-length c = ap length (c .before .loop .inv .1) ∙ length-filled _ _ _ (let
 
 returns : tie.Need-returns Inv-loop μ-loop
 returns c =
-    let e : c .before .loop .s ≡ c .before .before .before .before .args .n = omega arith in
+    let e : c .before .loop .s ≡ c .before .before .before .before .args .parts = omega arith in
     rw e at (c .before .loop .inv .1)
 
 pub fill-parts-spec : {M : Type 1} → statement M

@@ -39,7 +39,7 @@ returns-3 c =
     let formed = rw k at (c .before .before .before .before .before .before .before .sections .ensures) in
     let justified = rw k at (c .before .before .before .before .sequence .ensures) in
     let t : eqb (K r) 0 ≡ true = eq-eqb _ _ (sym k ∙ c .before .if3 .taken) in
-    goes-on _ _ formed (c .before .before .before .before .before .if1 .left) (goes-on _ _ justified (c .before .before .if2 .left) (rw t (c .plain .ensures)))
+    goes-on _ _ formed (c .before .before .before .before .before .if1 .left) (goes-on _ _ justified (c .before .before .if2 .left) (rw t (c .numbered .ensures)))
 
 returns-4 : tie.Need-returns-4
 unfolding judged
@@ -49,7 +49,7 @@ returns-4 c =
     let formed = rw k at (c .before .before .before .before .before .before .before .sections .ensures) in
     let justified = rw k at (c .before .before .before .before .sequence .ensures) in
     let t : eqb (K r) 0 ≡ false = ne-eqb _ _ (λ e. c .before .if3 .left (k ∙ e)) in
-    goes-on _ _ formed (c .before .before .before .before .before .if1 .left) (goes-on _ _ justified (c .before .before .if2 .left) (rw t (c .plain2 .ensures)))
+    goes-on _ _ formed (c .before .before .before .before .before .if1 .left) (goes-on _ _ justified (c .before .before .if2 .left) (rw t (c .numbered2 .ensures)))
 
 pub judge-spec : {M : Type 1} → statement M
 judge-spec =

@@ -33,7 +33,7 @@ returns-2 c =
     let g = c .before .before .before .before .before .before .before .before .before .args in
     let n : c .before .before .size .result ≡ size (section (g .«record» .now) 0) = c .before .before .size .ensures ∙ ap size (span-section _ _ _ (c .before .before .before .before .bounds .ensures)) in
     let t : ltb (g .room) (size (section (g .«record» .now) 0)) ≡ true = lt-ltb (g .room) (size (section (g .«record» .now) 0)) (omega arith) in
-    goes-on (refusal (g .«record» .now) partWords (g .lent)) _ (c .before .before .before .before .before .before .before .refusal .ensures) (c .before .before .before .before .before .if1 .left) (rw t (c .plain .ensures))
+    goes-on (refusal (g .«record» .now) partWords (g .lent)) _ (c .before .before .before .before .before .before .before .refusal .ensures) (c .before .before .before .before .before .if1 .left) (rw t (c .numbered .ensures))
 
 returns-3 : tie.Need-returns-3
 unfolding order-refusal race-refusal
@@ -41,7 +41,7 @@ returns-3 c =
     let g = c .before .before .before .before .before .before .before .before .before .args in
     let n : c .before .before .size .result ≡ size (section (g .«record» .now) 0) = c .before .before .size .ensures ∙ ap size (span-section _ _ _ (c .before .before .before .before .bounds .ensures)) in
     let t : ltb (g .room) (size (section (g .«record» .now) 0)) ≡ false = le-ltb (g .room) (size (section (g .«record» .now) 0)) (omega arith) in
-    goes-on (refusal (g .«record» .now) partWords (g .lent)) _ (c .before .before .before .before .before .before .before .refusal .ensures) (c .before .before .before .before .before .if1 .left) (rw t (c .plain2 .ensures))
+    goes-on (refusal (g .«record» .now) partWords (g .lent)) _ (c .before .before .before .before .before .before .before .refusal .ensures) (c .before .before .before .before .before .if1 .left) (rw t (c .numbered2 .ensures))
 
 pub order-refusal-spec : {M : Type 1} → statement M
 order-refusal-spec =

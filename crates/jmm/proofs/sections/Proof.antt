@@ -52,7 +52,7 @@ loop-again c =
 returns-2 : tie.Need-returns-2 Inv-loop μ-loop
 returns-2 c =
     let e : c .before .before .loop .s ≡ c .before .before .before .before .before .args .n = omega arith in
-    c .plain .ensures ∙ sym (rw e at (c .before .before .loop .inv .1))
+    c .numbered .ensures ∙ sym (rw e at (c .before .before .loop .inv .1))
 
 pub sections-spec : {M : Type 1} → statement M
 sections-spec =

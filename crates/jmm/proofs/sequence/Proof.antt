@@ -46,7 +46,7 @@ loop-again c =
 returns-2 : tie.Need-returns-2 Inv-loop μ-loop
 returns-2 c =
     let e : c .before .before .loop .j ≡ c .before .before .before .before .before .args .k = omega arith in
-    c .plain .ensures ∙ sym (rw e at (c .before .before .loop .inv .1))
+    c .numbered .ensures ∙ sym (rw e at (c .before .before .loop .inv .1))
 
 pub sequence-spec : {M : Type 1} → statement M
 sequence-spec =

@@ -1,1 +1,1 @@
-// What the library's answers mean for the demands; see proofs/. There is no code here.
+// What the library's answers mean: the statements are specs/Demands.antt, their proofs proofs/. There is no code here.

@@ -1,6 +1,6 @@
 -- What the two consistency rules say of a race-free section that passes the order, thread and seen-write rules (`Passed x`): 17 and 18 pass exactly when
 -- every order of its actions, one at a time, that keeps program order and synchronization order (`Order x l`) shows each read the write that it sees as
--- the latest earlier one to its variable. One order shows it where all do, and the list of order's answer 0 is one.
+-- the latest earlier one to its variable.
 use Prim.Native.Nat.{ℕ, _<_}
 use mathlib.Core.Path.{_≡_, refl, ap, _∙_}
 use mathlib.Core.List.{List}
@@ -85,12 +85,6 @@ module _ (x : List ℕ) (passed : Passed x) where
     λ c l order. shows x passed l order c,
     λ f. let order = serial-order x (passed .placed) in consistent x passed (serial x (size x)) order (f (serial x (size x)) order),
   )
-
-  -- the order of order's answer 0 decides
-  pub consistent-serial : Consistent x ↔ Shows x (serial x (size x))
-  consistent-serial =
-      let order = serial-order x (passed .placed) in
-      (shows x passed (serial x (size x)) order, consistent x passed (serial x (size x)) order)
 
 -- the same of a section x of the record r, of which nothing is asked but the tests of the numbers
 pub checked-orders : (r : List ℕ) (s : ℕ) (x : List ℕ) → Checked r s x → Consistent x ↔ ((l : List ℕ) → Order x l → Shows x l)

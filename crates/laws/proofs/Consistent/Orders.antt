@@ -34,17 +34,17 @@ module _ (x l : List ℕ) (order : Order x l) where
     unfolding listed
     stands = rw (order .whole) (counted (λ i. eqb (getD l i 0) a) (size x) (omega (arith, order .once a h)))
 
-    within : entry l a < size x
+    pub within : entry l a < size x
     within = omega (arith, entry-below l a stands, order .whole)
 
-    stands-at : getD l (entry l a) 0 ≡ a
+    pub stands-at : getD l (entry l a) 0 ≡ a
     stands-at = entry-at l a stands
 
   pub apart : (a b : ℕ) → a < size x → b < size x → entry l a ≡ entry l b → a ≡ b
   apart a b h k e = sym (stands-at a h) ∙ ap (λ (i : ℕ). getD l i 0) e ∙ stands-at b k
 
   module _ (a b : ℕ) (h : a < size x) (k : b < size x) where
-    po-kept : po x a b ≡ true → entry l a < entry l b
+    pub po-kept : po x a b ≡ true → entry l a < entry l b
     unfolding po
     po-kept e =
         let t = both (ltb a b) (eqb (thread x a) (thread x b)) e in

@@ -42,7 +42,7 @@ module _ (x : List ℕ) (passed : Passed x) where
 
   module _ (a : ℕ) where
     -- the seen write by its identifier
-    seen-of : (b : ℕ) → b < size x → seen x a ≡ ident x b → seen-at x a ≡ b
+    pub seen-of : (b : ℕ) → b < size x → seen x a ≡ ident x b → seen-at x a ≡ b
     unfolding seen-at
     seen-of b h e =
         first-only (size x) (λ c. eqb (ident x c) (seen x a)) b h (eq-eqb (ident x b) (seen x a) (sym e))

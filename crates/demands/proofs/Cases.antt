@@ -15,7 +15,8 @@ use Rattle.model.specs.Relations.{po, sw, edge, reach, hb, race}
 use Rattle.model.specs.Refused.{unmarked, out-of-range, cut, rule5, targeted, committed-in, fielded, met, sections, rule6, rule7, refusal}
 use Rattle.model.specs.Rules.{broken11, broken12, monitored, held, broken13, least, first-of, misstarted, misjoined, broken14, rival, seen-at, broken15, seen-value, broken16, latest, write-ident, broken17, seen-hb, broken18, ordered, racing}
 use Rattle.model.proofs.Search.{any-not}
-use Rattle.demands.specs.RecordM.{M, recordM, case2, case3, stale}
+use Rattle.model.specs.Bench.{M, recordM}
+use Rattle.demands.specs.Variants.{case2, case3, stale}
 use Rattle.demands.specs.Demands.{E, Passes, Passes11-16, RaceFree, ignored, Alike, Cases}
 
 -- a byte of action a that race does not ignore is another in y

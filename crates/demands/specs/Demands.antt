@@ -19,7 +19,8 @@ use Rattle.model.specs.Serial.{next, ready}
 use Rattle.model.specs.Questions.{race-refusal, race, race-words, order-refusal, order, order-list}
 use Rattle.jmm.proofs.race.Reads as public-race
 use Rattle.jmm.proofs.order.Reads as public-order
-use Rattle.demands.specs.RecordM.{recordM, case2, case3, stale}
+use Rattle.model.specs.Bench.{recordM}
+use Rattle.demands.specs.Variants.{case2, case3, stale}
 
 abbrev pub E : List ℕ → List ℕ
 E r = section r 0

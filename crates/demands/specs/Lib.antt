@@ -1,3 +1,3 @@
 -- Demand 3 and the claim about races, as statements.
-pub mod RecordM
+pub mod Variants
 pub mod Demands

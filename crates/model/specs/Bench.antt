@@ -22,7 +22,8 @@ header : ℕ → ℕ → ℕ → ℕ → List ℕ
 header t v k map = mark ++ (1 ∷ 0 ∷ t ∷ v ∷ 0 ∷ k ∷ map ∷ replicate 7 0)
 
 -- Record M: the places of actions 1 and 2; what action 2 sees, as an identifier, with its value; the same of action 3
-M : ℕ → ℕ → ℕ → ℕ → ℕ → ℕ → List ℕ
+unfoldable pub M : ℕ → ℕ → ℕ → ℕ → ℕ → ℕ → List ℕ
+unfolding action four header
 M place1 place2 seen2 value2 seen3 value3 =
     header 2 2 0 2
     ++ four (action 1 0 2 0 0 0 0 5)
@@ -30,7 +31,7 @@ M place1 place2 seen2 value2 seen3 value3 =
     (action 3 1 3 1 0 place2 seen2 value2)
     (action 4 1 1 0 0 0 seen3 value3)
 
-recordM : List ℕ
+abbrev pub recordM : List ℕ
 recordM = M 1 2 2 1 1 5
 
 -- An execution of record F: the commit numbers; what the reads of x and of y see, with its value; the value written to x

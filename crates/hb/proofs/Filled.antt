@@ -1,106 +1,134 @@
--- A part with the edges marked holds the rows of the edges, and closed it holds those of happens-before.
-use Prim.Native.Nat.{ℕ, zero, suc, _*_, _<_, _≤_}
-use native.Mathlib.Decide.{decLt, ℕ-discrete}
+-- A part through the sweep holds what each action leads to, and through the rounds happens-before.
+use Prim.Native.Nat.{ℕ, zero, suc, _<_, _≤_}
+use native.Mathlib.Nat.{eq-or-lt-of-le}
 use native.Mathlib.Omega.{arith}
-use mathlib.Core.Path.{_≡_, refl, sym, ap, fun-ext, _∙_}
+use mathlib.Core.Path.{_≡_, refl, sym, ap, _∙_}
 use mathlib.Core.List.{List}
-use mathlib.Core.Bool.{Bool, true, false, cond, _&&_, _||_, or-true, or-false, and-false}
-use lib.ListN.{length, replicate}
+use mathlib.Core.Bool.{Bool, true, false, _&&_, _||_, or-true, or-false, and-false, and-eq-true-iff}
+use mathlib.Core.Logic.{_⊎_, inl, inr, ⊎-elim}
+use lib.ListN.{length}
 use lib.Dec.{eqb, ltb, leb}
-use borrow.Author.Tests.{lt-ltb, le-ltb, le-leb, lt-leb, eq-eqb, ne-eqb, ltb-true}
+use borrow.Author.Tests.{lt-ltb, le-leb, lt-leb, eq-eqb, ne-eqb, eqb-true, ltb-true, leb-true}
 use Rattle.model.specs.Limits.{maxActions, rowWords, partWords}
-use Rattle.model.specs.Layout.{size}
+use Rattle.model.specs.Search.{any}
+use Rattle.model.specs.Layout.{size, thread, kind}
 use Rattle.model.specs.Relations.{po, sw, edge, reach, hb}
-use Rattle.model.specs.WorkArea.{rows, part}
-use Rattle.model.proofs.Closure.{edge-within}
-use Rattle.rows.specs.Steps.{marked, closed}
-use Rattle.rows.proofs.Cleared.{cleared-rows}
-use Rattle.rows.proofs.Marked.{marked-rows}
-use Rattle.rows.proofs.Closed.{closed-reach}
-use Rattle.hb.specs.Edges.{from, edges, happens}
+use Rattle.model.specs.WorkArea.{part}
+use Rattle.model.proofs.Search.{any-at}
+use Rattle.model.proofs.Closure.{Path⁺, one, join, via, Through, via-within, via-reach, edge-within, or-cases}
+use Rattle.rows.specs.Steps.{rounded}
+use Rattle.rows.proofs.Steps.{rounded-rows}
+use Rattle.hb.specs.Listing.{receives, entry, Listed}
+use Rattle.hb.specs.Passing.{held, hands, leads}
+use Rattle.hb.specs.Edges.{rounds, happens}
+use Rattle.hb.proofs.Marked.{held-same}
+use Rattle.hb.proofs.Listing.{entry-inside}
+use Rattle.hb.proofs.Hands.{any-elim, hands-to}
 
--- an edge from a to one of the first b positions is added to p
-abbrev with-from : List ℕ → ℕ → ℕ → (ℕ → ℕ → Bool) → ℕ → ℕ → Bool
-with-from x a b p c d = p c d || eqb c a && (ltb d b && (po x a d || sw x a d))
+module _ (x : List ℕ) where
+  abbrev n : ℕ
+  n = size x
 
--- one position more
-module _ (x : List ℕ) (a b : ℕ) (p : ℕ → ℕ → Bool) where
-  one-more : (d : ℕ) → (d ≡ b → ⊥) → ltb d b ≡ ltb d (suc b)
-  one-more d n =
-      elim (decLt d b) [
-        | yes h ↦ lt-ltb d b h ∙ sym (lt-ltb d (suc b) (omega arith))
-        | no g ↦ le-ltb d b (omega arith) ∙ sym (le-ltb d (suc b) (omega arith))
-      ]
+  -- from the actions of a section
+  abbrev led : ℕ → ℕ → Bool
+  led a b = leads x n 0 a b
 
-  more-edge : (po x a b || sw x a b) ≡ true → (c d : ℕ) → (with-from x a b p c d || eqb c a && eqb d b) ≡ with-from x a (suc b) p c d
-  more-edge e c d =
-      elim (ℕ-discrete d b) [
-        | yes q ↦ rw (q, e, lt-ltb b (suc b) (omega arith), le-ltb b b (omega arith), eq-eqb b b refl) (join (p c b) (eqb c a))
-        | no n ↦ rw (ne-eqb d b n, and-false, or-false, one-more d n)
-      ]
-    where
-      join : (s t : Bool) → (s || t && false) || t && true ≡ s || t && true
-      join true t = refl
-      join false true = refl
-      join false false = refl
+  po-in : (a b : ℕ) → po x a b ≡ true → (a < b) × (thread x a ≡ thread x b)
+  unfolding po
+  po-in a b h =
+      let (l, t) = and-eq-true-iff (ltb a b) (eqb (thread x a) (thread x b)) .0 h in
+      (ltb-true a b l, eqb-true (thread x a) (thread x b) t)
 
-  more-kept : (po x a b || sw x a b) ≡ false → (c d : ℕ) → with-from x a b p c d ≡ with-from x a (suc b) p c d
-  more-kept e c d =
-      elim (ℕ-discrete d b) [
-        | yes q ↦ rw (q, e) (simp and-false)
-        | no n ↦ rw (one-more d n)
-      ]
+  po-out : (a b : ℕ) → a < b → thread x a ≡ thread x b → po x a b ≡ true
+  unfolding po
+  po-out a b l t = rw (lt-ltb a b l, eq-eqb (thread x a) (thread x b) t)
 
--- the words of the rows of p
-abbrev held : (ℕ → ℕ → Bool) → List ℕ
-held p = rows rowWords partWords p
+  -- a or an action after it in program order synchronizes with b
+  hands-in :
+      {R : Type 0} (a t b : ℕ) → hands x n a t b ≡ true → ((c : ℕ) → c < n → a ≤ c → t ≡ thread x c → sw x c b ≡ true → R) → R
+  unfolding hands
+  hands-in a t b h f = any-elim _ n h (λ c l s.
+      let (p, rest) = and-eq-true-iff (leb a c) (eqb t (thread x c) && sw x c b) .0 s in
+      let (q, w) = and-eq-true-iff (eqb t (thread x c)) (sw x c b) .0 rest in
+      f c l (leb-true a c p) (eqb-true t (thread x c) q) w)
 
-held-same : (p q : ℕ → ℕ → Bool) → ((c d : ℕ) → p c d ≡ q c d) → held p ≡ held q
-held-same p q f = ap held (fun-ext (λ c. fun-ext (λ d. f c d)))
+  hands-out : (a t b c : ℕ) → c < n → a ≤ c → t ≡ thread x c → sw x c b ≡ true → hands x n a t b ≡ true
+  unfolding hands
+  hands-out a t b c l p q w = any-at _ n c l (rw (le-leb a c p, eq-eqb t (thread x c) q, w))
 
-from-rows : (x : List ℕ) (a b : ℕ) (p : ℕ → ℕ → Bool) → from x a b (held p) ≡ held (with-from x a b p)
-unfolding from
-from-rows x a zero p =
-    held-same p (with-from x a 0 p) (λ c d. rw (le-ltb d 0 (omega arith), and-false) (sym (or-false (p c d))))
-from-rows x a (suc b) p = step (po x a b || sw x a b) refl (from-rows x a b p)
-  where
-    step : (t : Bool) → (po x a b || sw x a b) ≡ t → from x a b (held p) ≡ held (with-from x a b p) →
-        cond t (marked rowWords (from x a b (held p)) a b) (from x a b (held p)) ≡ held (with-from x a (suc b) p)
-    step true e h =
-        ap (λ (ws : List ℕ). marked rowWords ws a b) h
-        ∙ marked-rows rowWords partWords (with-from x a b p) a b (omega arith)
-        ∙ held-same _ (with-from x a (suc b) p) (more-edge x a b p e)
-    step false e h = h ∙ held-same _ (with-from x a (suc b) p) (more-kept x a b p e)
+  -- an edge, and what a position leads to
+  edge-out : (a b : ℕ) → a < n → b < n → (po x a b || sw x a b) ≡ true → edge x a b ≡ true
+  unfolding edge
+  edge-out a b p q h = rw (lt-ltb a n p, lt-ltb b n q, h)
 
--- the edges from the first m positions
-abbrev edge-from : List ℕ → ℕ → ℕ → ℕ → Bool
-edge-from x m c d = ltb c m && ltb d (size x) && (po x c d || sw x c d)
+  edge-in : (a b : ℕ) → edge x a b ≡ true → (po x a b || sw x a b) ≡ true
+  unfolding edge
+  edge-in a b h = and-eq-true-iff (ltb a n && ltb b n) (po x a b || sw x a b) .0 h .1
 
-edges-rows : (x : List ℕ) (m : ℕ) → edges x m (held (λ c d. false)) ≡ held (edge-from x m)
-unfolding edges
-edges-rows x zero = held-same (λ c d. false) (edge-from x 0) (λ c d. rw (le-ltb c 0 (omega arith)))
-edges-rows x (suc m) =
-    ap (from x m (size x)) (edges-rows x m) ∙ from-rows x m (size x) (edge-from x m)
-    ∙ held-same _ (edge-from x (suc m)) one
-  where
-    one : (c d : ℕ) → with-from x m (size x) (edge-from x m) c d ≡ edge-from x (suc m) c d
-    one c d =
-        elim (ℕ-discrete c m) [
-          | yes q ↦ rw (q, lt-ltb m (suc m) (omega arith), le-ltb m m (omega arith), eq-eqb m m refl)
-          | no n ↦
-              elim (decLt c m) [
-                | yes h ↦ rw (ne-eqb c m n, lt-ltb c m h, lt-ltb c (suc m) (omega arith)) (or-false _)
-                | no g ↦ rw (ne-eqb c m n, le-ltb c m (omega arith), le-ltb c (suc m) (omega arith))
-              ]
-        ]
+  led-out : (a b : ℕ) → a < n → b < n → (po x a b || hands x n a (thread x a) b) ≡ true → led a b ≡ true
+  led-out a b p q h = rw (le-leb 0 a (omega arith), lt-ltb a n p, lt-ltb b n q, h)
 
--- cleared, marked and closed, a part is the section's
-filled : (x : List ℕ) → size x ≤ maxActions → closed rowWords maxActions (edges x (size x) (replicate partWords 0)) (size x) ≡ part x
-unfolding part hb edge
-filled x h =
-    ap (λ (ws : List ℕ). closed rowWords maxActions (edges x (size x) ws) (size x)) (cleared-rows rowWords partWords (omega arith))
-    ∙ ap (λ (ws : List ℕ). closed rowWords maxActions ws (size x)) (edges-rows x (size x))
-    ∙ closed-reach rowWords maxActions (edge x) (size x) h h (edge-within x)
+  led-in : (a b : ℕ) → led a b ≡ true → (a < n) × (b < n) × ((po x a b || hands x n a (thread x a) b) ≡ true)
+  led-in a b h =
+      let (from, rest) = and-eq-true-iff (leb 0 a && ltb a n) (ltb b n && (po x a b || hands x n a (thread x a) b)) .0 h in
+      let (_, p) = and-eq-true-iff (leb 0 a) (ltb a n) .0 from in
+      let (q, s) = and-eq-true-iff (ltb b n) (po x a b || hands x n a (thread x a) b) .0 rest in
+      (ltb-true a n p, ltb-true b n q, s)
+
+  -- every edge leads, and what leads is a way of edges
+  edge-led : (a b : ℕ) → edge x a b ≡ true → led a b ≡ true
+  edge-led a b h =
+      let (p, q) = edge-within x a b h in
+      led-out a b p q
+      (⊎-elim (λ s. rw s) (λ w. rw (hands-out a (thread x a) b a p (omega arith) refl w) (or-true (po x a b))) (or-cases (po x a b) (sw x a b) (edge-in a b h)))
+
+  led-edges : (a b : ℕ) → led a b ≡ true → Path⁺ (edge x) a b
+  led-edges a b h =
+      let (p, q, s) = led-in a b h in
+      ⊎-elim
+      (λ o. one (edge-out a b p q (rw o)))
+      (λ w. hands-in a (thread x a) b w (λ c l m t v. ⊎-elim
+      (λ (e : a ≡ c). one (edge-out a b p q (rw (e, v) (or-true (po x c b)))))
+      (λ (k : a < c). join (one (edge-out a c p l (rw (po-out a c k t)))) (one (edge-out c b l q (rw v (or-true (po x c b))))))
+      (eq-or-lt-of-le m)))
+      (or-cases (po x a b) (hands x n a (thread x a) b) s)
+
+  -- a way to a position that receives nothing comes by program order
+  through : (c : ℕ) → receives (kind x c) ≡ false → Through led c
+  through c r a b f g =
+      let (p, _, s) = led-in a c f in
+      let (_, q, t) = led-in c b g in
+      let (k, u) = po-in a c (sym (or-false (po x a c)) ∙ (rw (hands-to x n a (thread x a) c r) at s)) in
+      led-out a b p q
+      (⊎-elim
+      (λ o. let (l, v) = po-in c b o in rw (po-out a b (omega arith) (u ∙ v)))
+      (λ w. hands-in c (thread x c) b w (λ d l m v e. rw (hands-out a (thread x a) b d l (omega arith) (u ∙ v) e) (or-true (po x a b))))
+      (or-cases (po x c b) (hands x n c (thread x c) b) t))
+
+  module _ (at : List ℕ) (m : ℕ) (few : n ≤ maxActions) (list : Listed x n at m) where
+    cover : (c : ℕ) → c < n → (any m (λ i. eqb c (entry at i)) ≡ true) ⊎ Through led c
+    cover c h = by (receives (kind x c)) refl
+      where
+        by : (t : Bool) → receives (kind x c) ≡ t → (any m (λ i. eqb c (entry at i)) ≡ true) ⊎ Through led c
+        by true s = inl (list .exactly c ∙ rw (s, lt-ltb c n h))
+        by false s = inr (through c s)
+
+    within : (a b : ℕ) → led a b ≡ true → (a < n) × (b < n)
+    within a b h = let (p, q, _) = led-in a b h in (p, q)
+
+    rounds-rows : (i : ℕ) → i ≤ m → rounds n at i (held led) ≡ held (via led (entry at) i)
+    unfolding rounds via
+    rounds-rows zero h = refl
+    rounds-rows (suc i) h =
+        ap (λ (ws : List ℕ). rounded rowWords ws n (entry at i)) (rounds-rows i (omega arith))
+        ∙ rounded-rows rowWords maxActions (via led (entry at) i) n (entry at i) (omega arith) few few
+        (via-within led (entry at) n within i) (entry-inside x n at m list i (omega arith))
+
+    filled : rounds n at m (held led) ≡ part x
+    unfolding part hb
+    filled =
+        rounds-rows m (omega arith)
+        ∙ held-same _ (reach (edge x) n) (via-reach (edge x) led n within edge-led led-edges (entry at) m cover)
 
 module _ (x ws : List ℕ) where
   pub happens-part : length ws ≡ partWords → size x ≤ maxActions → happens x ws ≡ part x
@@ -108,11 +136,11 @@ module _ (x ws : List ℕ) where
   happens-part l h = rw (eq-eqb (length ws) partWords l, le-leb (size x) maxActions h)
 
   -- the three steps
-  pub happens-by : {n : ℕ} {us vs zs : List ℕ} → length ws ≡ partWords → n ≡ size x → n ≤ maxActions →
-      us ≡ replicate (length ws) 0 → vs ≡ edges x (size x) us → zs ≡ closed rowWords maxActions vs n → zs ≡ happens x ws
-  happens-by l e h cleared marks closing =
-      let small : size x ≤ maxActions = omega arith in
-      rw (closing, marks, cleared, l, e) (filled x small ∙ sym (happens-part l small))
+  pub happens-by :
+      {k m : ℕ} {at us vs : List ℕ} → length ws ≡ partWords → k ≡ size x → k ≤ maxActions → Listed x k at m → us ≡ held (leads x k 0) →
+      vs ≡ rounds k at m us → vs ≡ happens x ws
+  happens-by {k} {m} {at} l e h list swept closing =
+      rw (closing, swept, e) (filled x at m (omega arith) (rw e at list) ∙ sym (happens-part l (omega arith)))
 
   pub happens-other : (length ws ≡ partWords → ⊥) → happens x ws ≡ ws
   unfolding happens

@@ -1,51 +1,69 @@
--- The words while the edges are marked, one edge after another.
+-- The words while the edges are marked and the rounds are made, one after another.
 use Prim.Native.Nat.{ℕ, zero, suc, _+_}
 use native.Mathlib.Numerals.{add-one}
 use mathlib.Core.Path.{_≡_, refl, sym, _∙_}
 use mathlib.Core.List.{List}
-use mathlib.Core.Bool.{Bool, true, false, cond, _||_}
+use mathlib.Core.Bool.{Bool, true, false, cond}
 use lib.ListN.{length}
 use Rattle.model.specs.Limits.{rowWords}
-use Rattle.model.specs.Layout.{size}
-use Rattle.model.specs.Relations.{po, sw}
-use Rattle.rows.specs.Steps.{marked}
+use Rattle.model.specs.Relations.{sw}
+use Rattle.rows.specs.Steps.{marked, rounded}
 use Rattle.rows.proofs.Marked.{length-marked}
-use Rattle.hb.specs.Edges.{from, edges}
+use Rattle.rows.proofs.Steps.{length-rounded}
+use Rattle.hb.specs.Listing.{entry}
+use Rattle.hb.specs.Edges.{wanted, meets, from, rounds}
+use Rattle.hb.specs.declared.Wanted.{Wanted}
+use Rattle.hb.specs.declared.Wanted.the-variants.{Nothing}
+use Rattle.hb.proofs.Laws.{meets-sw}
 
-module _ (x : List ℕ) (a : ℕ) (ws : List ℕ) where
-  pub from-none : from x a 0 ws ≡ ws
+module _ (x at : List ℕ) (a : ℕ) (ws : List ℕ) where
+  pub from-none : from x at a 0 ws ≡ ws
   unfolding from
   from-none = refl
 
-  -- one position more, where t is whether there is an edge to it
-  module _ (b : ℕ) {us : List ℕ} {t : Bool} (so-far : us ≡ from x a b ws) (e : t ≡ (po x a b || sw x a b)) where
-    pub from-edge : t ≡ true → marked rowWords us a b ≡ from x a (b + 1) ws
-    unfolding from
-    from-edge h = rw (add-one, sym e ∙ h, so-far)
+  -- an action that asks for nothing has no edges
+  pub from-nothing : {w : Wanted} → w ≡ wanted x a → w ≡ Nothing → (m : ℕ) → ws ≡ from x at a m ws
+  unfolding from meets
+  from-nothing e h zero = refl
+  from-nothing e h (suc j) = rw none (from-nothing e h j)
+    where
+      none : sw x a (entry at j) ≡ false
+      none = sym (meets-sw x a (entry at j)) ∙ rw (sym e ∙ h)
 
-    pub from-kept : t ≡ false → us ≡ from x a (b + 1) ws
-    unfolding from
-    from-kept h = rw (add-one, sym e ∙ h) so-far
+  -- one entry more, where t is whether it is what a asks
+  module _ (j : ℕ) {us : List ℕ} {w : Wanted} {t : Bool} (so-far : us ≡ from x at a j ws) (asks : w ≡ wanted x a) (e : t ≡ meets x w (entry at j)) where
+    found : t ≡ sw x a (entry at j)
+    found = e ∙ rw asks (meets-sw x a (entry at j))
 
-  pub length-from : (b : ℕ) → length (from x a b ws) ≡ length ws
+    pub from-edge : t ≡ true → marked rowWords us a (entry at j) ≡ from x at a (j + 1) ws
+    unfolding from
+    from-edge h = rw (add-one, sym found ∙ h, so-far)
+
+    pub from-kept : t ≡ false → us ≡ from x at a (j + 1) ws
+    unfolding from
+    from-kept h = rw (add-one, sym found ∙ h) so-far
+
+  pub length-from : (j : ℕ) → length (from x at a j ws) ≡ length ws
   unfolding from
   length-from zero = refl
-  length-from (suc b) = step (po x a b || sw x a b) (length-from b)
+  length-from (suc j) = step (sw x a (entry at j)) (length-from j)
     where
-      step : (t : Bool) → length (from x a b ws) ≡ length ws → length (cond t (marked rowWords (from x a b ws) a b) (from x a b ws)) ≡ length ws
-      step true h = length-marked rowWords (from x a b ws) a b ∙ h
+      step :
+          (t : Bool) → length (from x at a j ws) ≡ length ws →
+          length (cond t (marked rowWords (from x at a j ws) a (entry at j)) (from x at a j ws)) ≡ length ws
+      step true h = length-marked rowWords (from x at a j ws) a (entry at j) ∙ h
       step false h = h
 
-module _ (x ws : List ℕ) where
-  pub edges-none : edges x 0 ws ≡ ws
-  unfolding edges
-  edges-none = refl
+module _ (n : ℕ) (at ws : List ℕ) where
+  pub rounds-none : rounds n at 0 ws ≡ ws
+  unfolding rounds
+  rounds-none = refl
 
-  pub edges-more : (a : ℕ) {us : List ℕ} → us ≡ edges x a ws → from x a (size x) us ≡ edges x (a + 1) ws
-  unfolding edges
-  edges-more a so-far = rw (add-one a, so-far)
+  pub rounds-more : (i : ℕ) {us : List ℕ} → us ≡ rounds n at i ws → rounded rowWords us n (entry at i) ≡ rounds n at (i + 1) ws
+  unfolding rounds
+  rounds-more i so-far = rw (add-one i, so-far)
 
-  pub length-edges : (a : ℕ) → length (edges x a ws) ≡ length ws
-  unfolding edges
-  length-edges zero = refl
-  length-edges (suc a) = length-from x a (edges x a ws) (size x) ∙ length-edges a
+  pub length-rounds : (i : ℕ) → length (rounds n at i ws) ≡ length ws
+  unfolding rounds
+  length-rounds zero = refl
+  length-rounds (suc i) = length-rounded rowWords (rounds n at i ws) n (entry at i) ∙ length-rounds i

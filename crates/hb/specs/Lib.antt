@@ -1,2 +1,4 @@
 -- What a section's part holds, step by step.
+pub mod Passing
+pub mod Listing
 pub mod Edges

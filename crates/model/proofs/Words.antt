@@ -165,6 +165,12 @@ module _ (W n : ℕ) (p : ℕ → ℕ → Bool) where
           (same-bits 64 (getD ws w 0) (bits 64 (word w)) (small w) (bits-lt 64 (word w))
           (λ j k. sym (bit-word W pos ws w j k) ∙ h (w / W) (64 * (w % W) + j) (omega arith) (omega arith) ∙ sym (on-bits 64 (word w) j k)))
 
+-- relations that agree where there are bits for them have the same rows
+pub rows-same :
+    (W n : ℕ) (p q : ℕ → ℕ → Bool) → 0 < W → ((a b : ℕ) → b < 64 * W → W * a + b / 64 < n → p a b ≡ q a b) → rows W n p ≡ rows W n q
+rows-same W n p q pos h =
+    is-rows W n q pos (rows W n p) (length-rows W n p) (words-rows W n p) (λ a b k l. bit-rows W n p a b k l ∙ h a b k l)
+
 -- no second list of words has the same bits
 pub same-words :
     (W : ℕ) → 0 < W → (us vs : List ℕ) → length us ≡ length vs → Words us → Words vs →

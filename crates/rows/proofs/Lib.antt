@@ -2,6 +2,6 @@
 pub mod Word
 pub mod Cleared
 pub mod Marked
-pub mod Closed
 pub mod Rounds
+pub mod Steps
 pub mod Unique

@@ -82,7 +82,7 @@ module _ (W : ℕ) (ws : List ℕ) (a b : ℕ) where
       ]
 
   -- the bits after, where (c, d) is another pair or the words have a bit for (a, b)
-  bits-marked :
+  pub bits-marked :
       (c d : ℕ) → (c ≡ a → d ≡ b → (b < 64 * W) × (at < length ws)) →
       bit W (marked W ws a b) c d ≡ bit W ws c d || eqb c a && eqb d b
   bits-marked c d inside =
@@ -94,9 +94,6 @@ module _ (W : ℕ) (ws : List ℕ) (a b : ℕ) where
               | yes q ↦ let (h, l) = inside e q in rw (e, q, eq-eqb a a refl, eq-eqb b b refl, or-true) (marked-same h l)
             ]
       ]
-
-  pub bit-marked : b < 64 * W → at < length ws → (c d : ℕ) → bit W (marked W ws a b) c d ≡ bit W ws c d || eqb c a && eqb d b
-  bit-marked h l c d = bits-marked c d (λ e q. (h, l))
 
 -- rows of a relation, with one pair more
 pub marked-rows :

@@ -1,17 +1,15 @@
 // Rows of bits in lent words: row a is W words, and bit b mod 64 of its word b div 64 stands for the pair (a, b).
 ghost use mathlib.Core.Path.{_≡_};
-ghost use Prim.Native.Nat.{_+_, _*_, _<_, _≤_};
+ghost use Prim.Native.Nat.{_+_, _*_, _≤_};
 ghost use lib.ListN.{length, replicate};
-ghost use Rattle.model.specs.Limits.{maxActions, rowWords};
+ghost use mathlib.Core.Bool.{cond};
+ghost use Rattle.model.specs.Limits.{rowWords};
 ghost use Rattle.model.specs.WorkArea.{bit};
-ghost use Rattle.rows.specs.Steps.{marked, closed};
-ghost use Rattle.rows.specs.Rounds.{Joined, Round};
+ghost use Rattle.rows.specs.Steps.{marked, joined, rounded};
+ghost use Rattle.rows.specs.Rounds.{Joined, Row};
 
 // Words a row.
 const W: usize = 2;
-
-// Rows a part.
-const MAX_ACTIONS: usize = 128;
 
 // Whether the bit for (a, b) is set; it is not where the words have no such bit.
 pub fn get(part: &[u64], a: u16, b: u16) -> bool
@@ -51,42 +49,65 @@ pub fn set(part: &mut [u64], a: u16, b: u16)
     part[i] = part[i] | (1 << (b % 64));
 }
 
-// Whole words of row `from` are or-ed into row `to`.
-fn or_row(part: &mut [u64], to: u16, from: u16)
+// v where `has`, else 0: rows are joined by one loop, under a test or without.
+fn chosen(has: bool, v: u64) -> u64
+    ensures { λ r. ⌜ r ≡ cond has v 0 ⌝ }
+{
+    if has { v } else { 0 }
+}
+
+// Whole words of row `from` of other words are or-ed into row `to`, where `has`.
+fn join_if(part: &mut [u64], to: u16, other: &[u64], from: u16, has: bool)
     requires { ⌜ rowWords * to + rowWords ≤ length (now part) ⌝ }
-    requires { ⌜ rowWords * from + rowWords ≤ length (now part) ⌝ }
-    ensures { λ _. ⌜ Joined rowWords (now (part .entry)) (now (part .exit)) to from rowWords ⌝ }
+    requires { ⌜ rowWords * from + rowWords ≤ length (now other) ⌝ }
+    ensures { λ _. ⌜ Joined rowWords (now (part .entry)) (now (part .exit)) to (now (other .entry)) from has rowWords ⌝ }
 {
     for j in 0..W {
         let i = W * to as usize + j;
-        part[i] = part[i] | part[W * from as usize + j];
+        part[i] = part[i] | chosen(has, other[W * from as usize + j]);
     }
 }
 
-// Round k: each of the first n rows that has bit k takes in row k.
-fn round(part: &mut [u64], n: u16, k: u16)
-    requires { ⌜ rowWords * n ≤ length (now part) ⌝ }
-    requires { ⌜ k < n ⌝ }
-    ensures { λ _. ⌜ Round rowWords (now (part .entry)) (now (part .exit)) k n ⌝ }
+// Row `from` of other words is or-ed into row `to`, where the words have these rows.
+pub fn join(part: &mut [u64], to: u16, other: &[u64], from: u16)
+    ensures { λ _. ⌜ now (part .exit) ≡ joined rowWords (now (part .entry)) to (now (other .entry)) from ⌝ }
 {
+    if W * to as usize + W > part.len() {
+        return;
+    }
+    if W * from as usize + W > other.len() {
+        return;
+    }
+    join_if(part, to, other, from, true);
+}
+
+fn row(part: &[u64], k: u16) -> [u64; W]
+    requires { ⌜ rowWords * k + rowWords ≤ length (now part) ⌝ }
+    ensures { λ r. ⌜ Row rowWords (now (part .entry)) k r ⌝ }
+{
+    let mut r = [0u64; W];
+    join_if(&mut r, 0, part, k, true);
+    r
+}
+
+// Round k of closing in place: each of the first n rows that has bit k takes in row k as it stood. No other row decides on it, so no second copy of the rows is needed.
+pub fn round(part: &mut [u64], n: u16, k: u16)
+    ensures { λ _. ⌜ now (part .exit) ≡ rounded rowWords (now (part .entry)) n k ⌝ }
+{
+    if k >= n {
+        return;
+    }
+    if n as usize > 64 * W {
+        return;
+    }
+    if W * n as usize > part.len() {
+        return;
+    }
+    let taken = row(part, k);
+    let word = k as usize / 64;
+    let shift = k as usize % 64;
     for a in 0..n {
-        if get(part, a, k) {
-            or_row(part, a, k);
-        }
-    }
-}
-
-// Closes the first n rows in place: a round leaves row k and column k as they are, so no second copy of the rows is needed.
-pub fn close(part: &mut [u64], n: u16)
-    ensures { λ _. ⌜ now (part .exit) ≡ closed rowWords maxActions (now (part .entry)) n ⌝ }
-{
-    if part.len() != W * MAX_ACTIONS {
-        return;
-    }
-    if n as usize > MAX_ACTIONS {
-        return;
-    }
-    for k in 0..n {
-        round(part, n, k);
+        let has = (part[W * a as usize + word] >> shift) % 2 == 1;
+        join_if(part, a, &taken, 0, has);
     }
 }

@@ -15,7 +15,7 @@ use Rattle.model.specs.Refused.{met}
 use Rattle.model.proofs.Search.{any-none, any-more}
 use Rattle.rows.specs.Steps.{marked}
 use Rattle.rows.proofs.Cleared.{bit-cleared}
-use Rattle.rows.proofs.Marked.{bit-marked, length-marked}
+use Rattle.rows.proofs.Marked.{bits-marked, length-marked}
 use Rattle.section.specs.Map.{known, Map}
 
 pub map-none : (x : List ℕ) → Map x 0 (replicate 1024 0)
@@ -47,7 +47,7 @@ pub map-more :
 map-more x a ws m d l e =
     record {
       long = length-marked rowWords ws (d / 128) (d % 128) ∙ m .long;
-      shows = λ c. bit-marked rowWords ws (d / 128) (d % 128) (omega arith) (rw (m .long) (omega arith)) (c / 128) (c % 128)
+      shows = λ c. bits-marked rowWords ws (d / 128) (d % 128) (c / 128) (c % 128) (λ _ _. (omega arith, rw (m .long) (omega arith)))
           ∙ ap₂ _||_ (m .shows c) (same-digits c d ∙ rw e)
           ∙ sym (any-more (λ b. eqb (ident x b) c) a);
     }

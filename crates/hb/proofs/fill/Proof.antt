@@ -15,10 +15,11 @@ returns-2 c = sym (happens-many _ _ (let e = c .before .size .ensures in omega a
 returns-3 : tie.Need-returns-3
 returns-3 c =
     let close = c .before .before in
-    let marks = close .before .before .before .before in
-    let cleared = marks .before .before .before .before in
-    let sized = cleared .before .before .before in
-    happens-by _ _ (sized .before .if1 .left) (sized .size .ensures) (cleared .before .before .if2 .left) (cleared .clear .ensures) (marks .mark-edges .ensures) (close .close .ensures)
+    let swept = close .before .before .before .before .before in
+    let list = swept .before .before .before .before in
+    let small = list .before in
+    let sized = small .before in
+    happens-by _ _ (sized .before .if1 .left) (sized .size .ensures) (small .if2 .left) (list .list-receivers .ensures) (swept .sweep .ensures) (close .close .ensures)
 
 pub fill-spec : {M : Type 1} → statement M
 fill-spec =
@@ -26,6 +27,7 @@ fill-spec =
     (tie.spec
     returns
     (λ c κs. search needs)
+    (λ c. search needs)
     returns-2
     (λ c κs. search needs)
     (λ c κs. search needs)

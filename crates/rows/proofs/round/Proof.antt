@@ -1,33 +1,55 @@
--- `rows::round` meets its contract. The loop's invariant: the rows before `a` are through round k.
+-- `rows::round` meets its contract. The loop's invariant: the rows before `a` are through round k. The words, being lent ones, have 64 bits, so those bits settle them.
 use Prim.Native.Nat.{_≤_, _-_}
-use mathlib.Core.Path.{_≡_, sym, _∙_}
-use mathlib.Core.Logic.{⊎-elim}
+use mathlib.Core.Path.{_≡_, sym}
 use native.Mathlib.Omega.{arith}
 use borrow.Author.Needs.{needs}
+use lib.Dec.{lit<}
 use Rattle.model.specs.Limits.{rowWords}
+use Rattle.model.proofs.Words.{Words, bit-in}
 use Rattle.rows.specs.Rounds.{Round}
-use Rattle.rows.proofs.Rounds.{round-none, round-skip, round-join}
+use Rattle.rows.proofs.Rounds.{round-none, round-more}
+use Rattle.rows.proofs.Steps.{rounded-outside, rounded-wide, rounded-past, rounded-by}
 use Rattle.rows.proofs.round.Statement.{statement}
 use Rattle.rows.proofs.round.Tie as tie
 
 abbrev Inv-loop : tie.InvT-loop
-Inv-loop part₀ n k a₀ part a = (a ≤ n) × Round rowWords part₀ part k a
+Inv-loop part₀ n k taken word shift a₀ part a = (a ≤ n) × Words part × Round rowWords part₀ part k a
 
 abbrev μ-loop : tie.MeasureT-loop
-μ-loop part₀ n k a₀ part a = n - a
+μ-loop part₀ n k taken word shift a₀ part a = n - a
+
+returns : tie.Need-returns Inv-loop μ-loop
+returns c = sym (rounded-outside _ _ _ _ (c .if1 .taken))
+
+returns-2 : tie.Need-returns-2 Inv-loop μ-loop
+returns-2 c = sym (rounded-wide _ _ _ _ (c .if2 .taken))
+
+returns-3 : tie.Need-returns-3 Inv-loop μ-loop
+returns-3 c = sym (rounded-past _ _ _ _ (c .if3 .taken))
+
+loop-holds : tie.Need-loop-holds Inv-loop μ-loop
+loop-holds c = (omega arith, λ i. c .before .before .before .before .before .slice-known .given i .fits, round-none _ _ _)
+
+slice-read-has : tie.Need-slice-read-has Inv-loop μ-loop
+slice-read-has c = omega (arith, c .before .before .loop .inv .2 .long)
 
 loop-again : tie.Need-loop-again Inv-loop μ-loop
 loop-again c =
-    let at = c .before .before .before .before in (
+    let joined = c .before .before in
+    let at = joined .before .before .before .before .before in (
       omega arith,
-      ⊎-elim
-          (λ w. rw (w .5) (round-join _ _ _ (at .loop .part) (at .loop .a) (at .loop .inv .1) (sym (c .before .get .ensures) ∙ w .0 .taken) _ (w .2 .ensures)))
-          (λ w. rw (w .1) (round-skip _ _ _ (at .loop .part) (at .loop .a) (at .loop .inv .1) (sym (c .before .get .ensures) ∙ w .0 .left)))
-          (c .if1 .came),
+      λ i. c .slice-known3 .given i .fits,
+      round-more _ _ _ (at .loop .part) (at .loop .a) _ (at .loop .inv .2) (at .before .row .ensures) (sym (bit-in _ _ _ _ (omega arith))) (joined .join-if .ensures),
     )
 
-returns : tie.Need-returns Inv-loop μ-loop
-returns c = let e : c .before .loop .a ≡ c .before .before .before .args .n = omega arith in rw e at (c .before .loop .inv .1)
+same-length : tie.Need-same-length Inv-loop μ-loop
+same-length c = c .before .loop .inv .2 .long
+
+returns-4 : tie.Need-returns-4 Inv-loop μ-loop
+returns-4 c =
+    let (l, small, s) = c .before .loop .inv in
+    let e : c .before .loop .a ≡ c .before .before .before .before .before .before .before .before .args .n = omega arith in
+    rounded-by _ _ _ _ (lit< tt) (omega arith) (omega arith) (omega arith) small (rw e at s)
 
 pub round-spec : {M : Type 1} → statement M
 round-spec =
@@ -35,11 +57,23 @@ round-spec =
     (tie.spec
     Inv-loop
     μ-loop
-    (λ c. (search needs, round-none _ _ _))
+    returns
+    (λ c. search needs)
+    returns-2
+    (λ c. search needs)
+    returns-3
     (λ c κs. search needs)
+    loop-holds
+    (λ c. search needs)
+    (λ c. search needs)
+    (λ c. search needs)
+    (λ c. search needs)
+    slice-read-has
+    (λ c. search needs)
+    (λ c. search needs)
     (λ c κs. search needs)
     (λ c. search needs)
     (λ c. search needs)
     loop-again
-    (λ c. search needs)
-    returns)
+    same-length
+    returns-4)

@@ -1,6 +1,7 @@
-pub mod Ways
 pub mod Values
-pub mod Searches
-pub mod Best
-pub mod Chains
+pub mod Writes
+pub mod Sources
+pub mod Latest
+pub mod Hidden
+pub mod Pairs
 pub mod Unique

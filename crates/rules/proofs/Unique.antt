@@ -1,12 +1,8 @@
 -- No second result meets a public promise of this crate.
 use mathlib.Core.Path.{sym, _∙_}
 use Rattle.model.proofs.Settles.{Settles}
-use Rattle.rules.proofs.ordered.Reads as ordered
 use Rattle.rules.proofs.well_formed.Reads as well-formed
 use Rattle.rules.proofs.racing.Reads as racing
-
-pub ordered-unique : Settles ordered.Post (λ κs r s. r)
-ordered-unique κs x r q s t e f = e ∙ sym f
 
 pub well-formed-unique : Settles well-formed.Post (λ κs r s. r)
 well-formed-unique κs x r q s t e f = e ∙ sym f

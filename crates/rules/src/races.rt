@@ -1,27 +1,34 @@
 // The race of number 31.
-use crate::action;
-use crate::kinds;
+use crate::own;
 use crate::search;
+use model::Answer;
+use answers::numbered;
+use ordered::lists;
 ghost use mathlib.Core.Path.{_≡_};
-ghost use Rattle.model.specs.Limits.{rowWords};
+ghost use Prim.Native.Nat.{_≤_};
+ghost use Rattle.model.specs.Limits.{maxActions, rowWords};
 ghost use Rattle.model.specs.Layout.{size};
-ghost use Rattle.model.specs.Search.{first};
 ghost use Rattle.model.specs.WorkArea.{bit};
-ghost use Rattle.rules.specs.Numbers.{racing-from, races};
+ghost use Rattle.model.specs.Rules.{racing};
 
-// The first action after a that races with it; the section's size where there is none.
-pub fn raced(x: &[u8], part: &[u64], a: u16) -> u16
-    ensures { λ r. ⌜ r ≡ first (size (now (x .entry))) (racing-from (bit rowWords (now (part .entry))) (now (x .entry)) a) ⌝ }
+// Each plain access is held against those after it in the list, of which the first i are up to a.
+pub(crate) fn least_pair(x: &[u8], part: &[u64]) -> Answer
+    requires { ⌜ size (now x) ≤ maxActions ⌝ }
+    ensures { λ r. ⌜ r ≡ racing (bit rowWords (now (part .entry))) (now (x .entry)) ⌝ }
 {
     let n = fields::size(x);
-    if !kinds::plain(x, a) {
-        return n;
+    let plain = lists::listed(x, 1, 2);
+    let count = plain.count;
+    let list = plain.at;
+    let mut i = 0;
+    for a in 0..n {
+        if lists::of_kinds(x, 1, 2, a) {
+            i += 1;
+            let b = search::first(x, part, &list, count, i, search::RACING, own::load(x, a, n));
+            if b < n {
+                return Answer { n: 31, s: 0, a, b };
+            }
+        }
     }
-    search::first(x, part, search::RACING, action::load(x, a), n)
-}
-
-pub fn races(x: &[u8], part: &[u64], a: u16) -> bool
-    ensures { λ r. ⌜ r ≡ races (bit rowWords (now (part .entry))) (now (x .entry)) a ⌝ }
-{
-    raced(x, part, a) < fields::size(x)
+    numbered(0, 0)
 }

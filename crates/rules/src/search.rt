@@ -1,110 +1,130 @@
-// The searches over a section's actions: one loop each, for every rule that asks for it.
-use crate::action::Action;
+// The search over a list of positions, one loop for every rule that asks for it.
 use crate::kinds;
-use crate::pairs;
+use crate::own::Own;
+use ordered::lists::ROOM;
 ghost use mathlib.Core.Path.{_≡_};
-ghost use Rattle.model.specs.Limits.{rowWords};
+ghost use mathlib.Core.Bool.{false, _||_};
+ghost use lib.Dec.{eqb};
+ghost use lib.ListN.{getD};
+ghost use Prim.Native.Nat.{_≤_};
+ghost use Rattle.model.specs.Limits.{maxActions, rowWords};
+ghost use Rattle.model.specs.Search.{any};
+ghost use Rattle.model.specs.Kinds.{kindRow};
+ghost use Rattle.model.specs.Layout.{size, write};
 ghost use Rattle.model.specs.WorkArea.{bit};
-ghost use Rattle.model.specs.Search.{any, first, count};
-ghost use Rattle.rules.specs.Tests.{holds};
+ghost use Rattle.ordered.specs.Lists.{pick};
+ghost use Rattle.rules.specs.Tests.{seen-write, hiding, conflicting, unordered, racing, holds};
 
-// No position.
-pub const NONE: u16 = 65535;
+// The tests: what a rule asks of each listed action b, beside its own action. Of 15, 18 and 31:
+pub const SEEN_WRITE: u8 = 0;
 
-// The tests: what a rule asks of each action b, beside its own action. Of 11 and 12:
-pub const SYNC: u8 = 0;
+pub const HIDING: u8 = 1;
 
-pub const PLACED: u8 = 1;
+pub const RACING: u8 = 2;
 
-pub const OVERTAKEN: u8 = 2;
+fn seen_write(x: &[u8], own: Own, b: u16) -> bool
+    ensures { λ r. ⌜ r ≡ seen-write (now (x .entry)) own b ⌝ }
+{
+    if fields::ident(x, b) != own.seen {
+        return false;
+    }
+    fields::target(x, b) == own.target
+}
 
-// Of 13:
-pub const LOCKED: u8 = 3;
+// The write seen, which is the initial one or the one at `source`, happens before b.
+fn seen_hb(part: &[u64], own: Own, b: u16) -> bool
+    ensures { λ r. ⌜ r ≡ (eqb (own .seen) 0 || bit rowWords (now (part .entry)) (own .source) b) ⌝ }
+{
+    if own.seen == 0 {
+        return true;
+    }
+    rows::get(part, own.source, b)
+}
 
-pub const UNLOCKED: u8 = 4;
+// What is cheap and fails most often comes first.
+fn hiding(x: &[u8], part: &[u64], own: Own, b: u16) -> bool
+    ensures { λ r. ⌜ r ≡ hiding (bit rowWords (now (part .entry))) (now (x .entry)) own b ⌝ }
+{
+    if fields::target(x, b) != own.target {
+        return false;
+    }
+    if !seen_hb(part, own, b) {
+        return false;
+    }
+    rows::get(part, b, own.at)
+}
 
-pub const OWN_LOCKED: u8 = 5;
+// At least one of two accesses is a write: the one of this kind, or b.
+fn one_writes(x: &[u8], kind: u8, b: u16) -> bool
+    ensures { λ r. ⌜ r ≡ (kindRow kind .write || write (now (x .entry)) b) ⌝ }
+{
+    if kinds::writes(kind) {
+        return true;
+    }
+    kinds::write(x, b)
+}
 
-pub const OWN_UNLOCKED: u8 = 6;
+fn conflicting(x: &[u8], own: Own, b: u16) -> bool
+    ensures { λ r. ⌜ r ≡ conflicting (now (x .entry)) own b ⌝ }
+{
+    if own.target != fields::target(x, b) {
+        return false;
+    }
+    one_writes(x, own.kind, b)
+}
 
-// Of 14:
-pub const OF_THREAD: u8 = 7;
+fn unordered(x: &[u8], part: &[u64], own: Own, b: u16) -> bool
+    ensures { λ r. ⌜ r ≡ unordered (bit rowWords (now (part .entry))) (now (x .entry)) own b ⌝ }
+{
+    if !conflicting(x, own, b) {
+        return false;
+    }
+    if rows::get(part, own.at, b) {
+        return false;
+    }
+    !rows::get(part, b, own.at)
+}
 
-pub const OF_TARGET: u8 = 8;
+fn racing(x: &[u8], part: &[u64], own: Own, b: u16) -> bool
+    ensures { λ r. ⌜ r ≡ racing (bit rowWords (now (part .entry))) (now (x .entry)) own b ⌝ }
+{
+    if b <= own.at {
+        return false;
+    }
+    unordered(x, part, own, b)
+}
 
-pub const LATER: u8 = 9;
-
-pub const STARTED: u8 = 10;
-
-pub const ENDED: u8 = 11;
-
-// Of 15 to 18:
-pub const SEEN: u8 = 12;
-
-pub const SEEN_WRITE: u8 = 13;
-
-pub const HIDING: u8 = 14;
-
-// Of 31:
-pub const RACING: u8 = 15;
-
-// Action b passes test t. A test has a number so that a loop is compiled for each: the numbers are constants where the loops are called.
-fn holds(x: &[u8], part: &[u64], t: u8, own: Action, b: u16) -> bool
+// Action b passes test t. A test has a number so that a loop is compiled for each: the numbers are constants where the loop is called.
+fn holds(x: &[u8], part: &[u64], t: u8, own: Own, b: u16) -> bool
     ensures { λ r. ⌜ r ≡ holds (bit rowWords (now (part .entry))) (now (x .entry)) t own b ⌝ }
 {
     match t {
-        SYNC => kinds::sync(x, b),
-        PLACED => pairs::placed(x, own, b),
-        OVERTAKEN => pairs::overtaken(x, own, b),
-        LOCKED => pairs::on_monitor(x, 5, true, own, b),
-        UNLOCKED => pairs::on_monitor(x, 6, true, own, b),
-        OWN_LOCKED => pairs::on_monitor(x, 5, false, own, b),
-        OWN_UNLOCKED => pairs::on_monitor(x, 6, false, own, b),
-        OF_THREAD => fields::thread(x, b) == own.thread,
-        OF_TARGET => fields::thread(x, b) == own.target,
-        LATER => pairs::later(x, own, b),
-        STARTED => pairs::started(x, own, b),
-        ENDED => pairs::ended(x, own, b),
-        SEEN => fields::ident(x, b) == own.seen,
-        SEEN_WRITE => pairs::seen_write(x, own, b),
-        HIDING => pairs::hiding(x, part, own, b),
-        _ => pairs::racing(x, part, own, b),
+        SEEN_WRITE => seen_write(x, own, b),
+        HIDING => hiding(x, part, own, b),
+        _ => racing(x, part, own, b),
     }
 }
 
-// One of the first `to` actions passes the test.
-pub fn any(x: &[u8], part: &[u64], t: u8, own: Action, to: u16) -> bool
-    ensures { λ r. ⌜ r ≡ any to (holds (bit rowWords (now (part .entry))) (now (x .entry)) t own) ⌝ }
+// The first position in the list that passes the test, the section's count where none does. None of the first `from` does.
+pub(crate) fn first(
+    x: &[u8],
+    part: &[u64],
+    list: &[u16; ROOM],
+    count: u16,
+    from: u16,
+    t: u8,
+    own: Own,
+) -> u16
+    requires { ⌜ count ≤ maxActions ⌝ }
+    requires { ⌜ from ≤ count ⌝ }
+    requires { ⌜ any from (λ j. holds (bit rowWords (now part)) (now x) t own (getD (now list) j 0)) ≡ false ⌝ }
+    ensures { λ r. ⌜ r ≡ pick (now (list .entry)) count (size (now (x .entry))) (holds (bit rowWords (now (part .entry))) (now (x .entry)) t own) ⌝ }
 {
-    for b in 0..to {
-        if holds(x, part, t, own, b) {
-            return true;
-        }
-    }
-    false
-}
-
-// The first of n actions that passes the test; n where none does.
-pub fn first(x: &[u8], part: &[u64], t: u8, own: Action, n: u16) -> u16
-    ensures { λ r. ⌜ r ≡ first n (holds (bit rowWords (now (part .entry))) (now (x .entry)) t own) ⌝ }
-{
-    for b in 0..n {
+    for j in from..count {
+        let b = list[j as usize];
         if holds(x, part, t, own, b) {
             return b;
         }
     }
-    n
-}
-
-// How many of n actions pass the test.
-pub fn count(x: &[u8], part: &[u64], t: u8, own: Action, n: u16) -> u16
-    ensures { λ r. ⌜ r ≡ count n (holds (bit rowWords (now (part .entry))) (now (x .entry)) t own) ⌝ }
-{
-    let mut passed = 0;
-    for b in 0..n {
-        if holds(x, part, t, own, b) {
-            passed += 1;
-        }
-    }
-    passed
+    fields::size(x)
 }

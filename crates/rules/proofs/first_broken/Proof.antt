@@ -1,37 +1,34 @@
 -- `rules::first_broken` meets its contract: no action before a breaks the rule.
-use Prim.Native.Nat.{_≤_, _-_}
+use Prim.Native.Nat.{_-_, _≤_}
+use native.Mathlib.Omega.{arith}
 use mathlib.Core.Path.{_≡_, sym, _∙_}
 use mathlib.Core.Bool.{false}
-use native.Mathlib.Omega.{arith}
-use borrow.Author.Needs.{needs}
 use Rattle.model.specs.Limits.{rowWords}
 use Rattle.model.specs.Layout.{size}
 use Rattle.model.specs.Search.{any}
 use Rattle.model.specs.WorkArea.{bit}
 use Rattle.model.proofs.Search.{any-none, any-pass, found-none, found-at}
 use Rattle.rules.specs.Numbers.{broken}
-use Rattle.rules.specs.Tests.{holds}
+use borrow.Author.Needs.{needs}
 use Rattle.rules.proofs.first_broken.Statement.{statement}
 use Rattle.rules.proofs.first_broken.Tie as tie
 
 abbrev Inv-loop : tie.InvT-loop
-Inv-loop x part number n total a₀ a = (a ≤ n) × (any a (broken (bit rowWords part) x number) ≡ false)
+Inv-loop x part source list count number n a₀ a = (a ≤ n) × (any a (broken (bit rowWords part) x number) ≡ false)
 
 abbrev μ-loop : tie.MeasureT-loop
-μ-loop x part number n total a₀ a = n - a
+μ-loop x part source list count number n a₀ a = n - a
 
 loop-holds : tie.Need-loop-holds Inv-loop μ-loop
 loop-holds c = (omega arith, any-none _)
 
 broken-requires : tie.Need-broken-requires Inv-loop μ-loop
-unfolding holds
-broken-requires c κs = c .before .before .count .ensures ∙ rw (c .before .before .before .before .size .ensures)
+broken-requires c κs = (omega (arith, c .before .before .size .ensures), (c .before .before .before .before .before .pre .0, c .before .before .before .before .before .pre .1))
 
 returns : tie.Need-returns Inv-loop μ-loop
 returns c =
     sym
-    (found-at _ _ (c .before .before .before .loop .a) (omega (arith, c .before .before .before .before .before .before .size .ensures)) (c .before .before .before .loop .inv .1)
-    (sym (c .before .broken .ensures) ∙ c .if1 .taken))
+    (found-at _ _ (c .before .before .before .loop .a) (omega (arith, c .before .before .before .before .size .ensures)) (c .before .before .before .loop .inv .1) (sym (c .before .broken .ensures) ∙ c .if1 .taken))
 
 loop-again : tie.Need-loop-again Inv-loop μ-loop
 loop-again c =
@@ -39,7 +36,7 @@ loop-again c =
 
 returns-2 : tie.Need-returns-2 Inv-loop μ-loop
 returns-2 c =
-    let e : c .before .loop .a ≡ size (c .before .before .before .before .before .before .before .args .x .now) = omega (arith, c .before .before .before .before .size .ensures) in
+    let e : c .before .loop .a ≡ size (c .before .before .before .before .before .args .x .now) = omega (arith, c .before .before .size .ensures) in
     sym (found-none _ _ (rw e at (c .before .loop .inv .1)))
 
 pub first-broken-spec : {M : Type 1} → statement M
@@ -48,8 +45,6 @@ first-broken-spec =
     (tie.spec
     Inv-loop
     μ-loop
-    (λ c κs. search needs)
-    (λ c κs. search needs)
     (λ c κs. search needs)
     loop-holds
     broken-requires

@@ -1,22 +1,17 @@
 -- `rules::racing` meets its contract.
-use mathlib.Core.Path.{sym, _∙_}
-use native.Mathlib.Omega.{arith}
+use borrow.Author.Tests.{le-leb, lt-leb}
+use Rattle.ordered.specs.Limit.{limited}
 use borrow.Author.Needs.{needs}
-use Rattle.model.specs.Rules.{racing}
-use Rattle.rules.specs.Numbers.{broken}
-use Rattle.rules.proofs.Chains.{pair-none, pair-at}
 use Rattle.rules.proofs.racing.Statement.{statement}
 use Rattle.rules.proofs.racing.Tie as tie
 
 returns : tie.Need-returns
-unfolding racing broken
-returns c =
-    c .pass .ensures ∙ sym (pair-none _ _ _ _ (c .before .before .first-broken .ensures) (c .before .if1 .taken))
+unfolding limited
+returns c = rw (lt-leb _ _ (rw (c .before .before .size .ensures) at (c .before .if1 .taken))) (c .numbered .ensures)
 
 returns-2 : tie.Need-returns-2
-unfolding racing broken
-returns-2 c =
-    sym (pair-at _ _ _ _ (c .before .before .first-broken .ensures) (c .raced .ensures) (omega arith))
+unfolding limited
+returns-2 c = rw (le-leb _ _ (rw (c .before .before .size .ensures) at (c .before .if1 .left))) (c .least-pair .ensures)
 
 pub racing-spec : {M : Type 1} → statement M
 racing-spec =

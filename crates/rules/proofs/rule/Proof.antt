@@ -1,12 +1,11 @@
 -- `rules::rule` meets its contract.
+use Rattle.ordered.proofs.Chains.{named}
 use borrow.Author.Needs.{needs}
-use Rattle.model.specs.Answers.{rule}
 use Rattle.rules.proofs.rule.Statement.{statement}
 use Rattle.rules.proofs.rule.Tie as tie
 
 returns : tie.Need-returns
-unfolding rule
-returns c = rw (c .naming .ensures, c .before .first-broken .ensures)
+returns c = named _ _ _ _ (c .before .first-broken .ensures) (c .naming .ensures)
 
 pub rule-spec : {M : Type 1} → statement M
 rule-spec =

@@ -1,7 +1,7 @@
 -- `rules::consistency::broken17` meets its contract.
-use borrow.Author.Needs.{needs}
 use Rattle.model.specs.Rules.{broken17}
-use Rattle.rules.proofs.Ways.{ways, equal}
+use Rattle.ordered.proofs.Ways.{ways, equal}
+use borrow.Author.Needs.{needs}
 use Rattle.rules.proofs.consistency.broken17.Statement.{statement}
 use Rattle.rules.proofs.consistency.broken17.Tie as tie
 

@@ -2,90 +2,103 @@
 use Prim.Native.Nat.{ℕ, _+_, _-_, _≤_}
 use native.Mathlib.Omega.{arith}
 use mathlib.Core.Path.{_≡_, sym, _∙_}
-use mathlib.Core.Bool.{Bool, true, false, _&&_}
+use mathlib.Core.Bool.{true, false, _&&_}
 use mathlib.Core.List.{List}
 use mathlib.Core.Logic.{⊎-elim}
-use lib.Dec.{ltb, leb}
+use lib.Dec.{leb}
+use lib.ListN.{getD}
+use borrow.Author.Tests.{le-leb}
+use Rattle.model.specs.Layout.{size, target, place}
+use Rattle.ordered.proofs.Searches.{and-left, and-right}
+use Rattle.ordered.proofs.Ways.{was-on}
+use Rattle.ordered.proofs.Listing.{listed-fits}
+use Rattle.ordered.proofs.Best.{Pass, Kept, kept-none, kept-take, kept-keep}
+use Rattle.rules.proofs.Latest.{writes-pass, below, latest-at, latest-none}
 use borrow.Author.Needs.{needs}
-use borrow.Author.Tests.{ltb-true, le-leb}
-use Rattle.model.specs.Layout.{size, place}
-use Rattle.model.specs.Rules.{rival, latest}
-use Rattle.rules.specs.declared.action.Action.{Action}
-use Rattle.rules.specs.Actions.{action}
-use Rattle.rules.specs.Pairs.{write-to, earlier}
-use Rattle.rules.proofs.Searches.{and-left, and-right}
-use Rattle.rules.proofs.Best.{Pass, largest-pass, Kept, kept-none, kept-take, kept-keep, kept-first}
 use Rattle.rules.proofs.consistency.latest.Statement.{statement}
 use Rattle.rules.proofs.consistency.latest.Tie as tie
 
-abbrev pass : List ℕ → Action → Pass
-pass x o = largest-pass (earlier x o) (place x) 0
-
 abbrev Inv-loop : tie.InvT-loop
-Inv-loop x a n own best₀ from₀ b₀ best from b = (b ≤ n) × Kept (pass x own) n b best from
+Inv-loop x list m a v p best₀ from₀ j₀ best from j = (j ≤ m) × Kept (writes-pass x list v p) m j best from
 
 abbrev μ-loop : tie.MeasureT-loop
-μ-loop x a n own best₀ from₀ b₀ best from b = n - b
+μ-loop x list m a v p best₀ from₀ j₀ best from j = m - j
 
 loop-holds : tie.Need-loop-holds Inv-loop μ-loop
 loop-holds c = (
   omega arith,
-  kept-none (pass (c .before .before .before .args .x .now) (c .load .result)) (c .before .size .result),
+  kept-none (writes-pass (c .before .before .before .args .x .now) (c .before .before .before .args .list .now) (c .before .target .result) (c .place .result)) (c .before .before .before .args .count),
 )
+
+element-copy-out-b : tie.Need-element-copy-out-b Inv-loop μ-loop
+element-copy-out-b c = omega (arith, listed-fits _ (λ b. true) _ (c .before .before .before .before .before .pre))
 
 add-from : tie.Need-add-from Inv-loop μ-loop
 add-from c =
-    let x = c .before .before .before .before .before .before .before .before .args .x .now in
-    let o = c .before .before .before .before .before .load .result in
-    let b = c .before .before .before .before .loop .b in
-    let h = and-left (earlier x o b) _ (sym (c .before .before .write-between .ensures) ∙ c .before .if1 .taken) in
-    omega (arith, ltb-true (place x b) (o .place) (and-right (write-to x (o .target) b) (ltb (place x b) (o .place)) h), c .place .ensures)
+    omega (
+      arith,
+      below (c .before .before .before .before .before .before .before .before .before .args .x .now) (c .before .before .before .before .before .before .before .target .result) (c .before .before .before .before .before .before .place .result) (c .before .before .before .before .before .loop .from) (getD (c .before .before .before .before .before .before .before .before .before .args .list .now) (c .before .before .before .before .before .loop .j) 0)
+          (was-on (c .before .before .between .ensures) (c .before .if1 .taken)),
+      c .place2 .ensures,
+    )
 
 loop-again : tie.Need-loop-again Inv-loop μ-loop
 loop-again c = (
   omega arith,
   ⊎-elim
       (λ w.
-      let h : (s .candidate) b && leb v (place x b) ≡ true = sym (c .before .write-between .ensures) ∙ w .0 .taken in
+      let h : (s .candidate) j && leb f (place x b) ≡ true = sym (c .before .between .ensures) ∙ w .0 .taken in
       rw (w .2, w .3, w .1 .ensures)
-      (kept-take s n b m v k (and-left ((s .candidate) b) (leb v (place x b)) h) (and-right ((s .candidate) b) (leb v (place x b)) h)))
-      (λ w. rw (w .1, w .2) (keep (sym (c .before .write-between .ensures) ∙ w .0 .left)))
+      (kept-take s m j t f k (and-left ((s .candidate) j) (leb f (place x b)) h) (and-right ((s .candidate) j) (leb f (place x b)) h)))
+      (λ w. rw (w .1, w .2) (keep (sym (c .before .between .ensures) ∙ w .0 .left)))
       (c .if1 .came),
 )
   where
     x : List ℕ
-    x = c .before .before .before .before .before .before .before .args .x .now
+    x = c .before .before .before .before .before .before .before .before .args .x .now
 
-    n : ℕ
-    n = c .before .before .before .before .before .size .result
-
-    s : Pass
-    s = pass x (c .before .before .before .before .load .result)
-
-    b : ℕ
-    b = c .before .before .before .loop .b
+    l : List ℕ
+    l = c .before .before .before .before .before .before .before .before .args .list .now
 
     m : ℕ
-    m = c .before .before .before .loop .best
+    m = c .before .before .before .before .before .before .before .before .args .count
 
-    v : ℕ
-    v = c .before .before .before .loop .from
+    s : Pass
+    s = writes-pass x l (c .before .before .before .before .before .before .target .result) (c .before .before .before .before .before .place .result)
 
-    k : Kept s n b m v
-    k = c .before .before .before .loop .inv .1
+    j : ℕ
+    j = c .before .before .before .before .loop .j
 
-    keep : (s .candidate) b && leb v (place x b) ≡ false → Kept s n (b + 1) m v
-    keep = kept-keep s n b m v k (λ h. le-leb 0 (place x b) (omega arith))
+    b : ℕ
+    b = getD l j 0
+
+    t : ℕ
+    t = c .before .before .before .before .loop .best
+
+    f : ℕ
+    f = c .before .before .before .before .loop .from
+
+    k : Kept s m j t f
+    k = c .before .before .before .before .loop .inv .1
+
+    keep : (s .candidate) j && leb f (place x b) ≡ false → Kept s m (j + 1) t f
+    keep = kept-keep s m j t f k (λ h. le-leb 0 (place x b) (omega arith))
+
+element-copy-out-result : tie.Need-element-copy-out-result Inv-loop μ-loop
+element-copy-out-result c = omega (arith, listed-fits _ (λ b. true) _ (c .before .before .before .before .before .before .pre))
 
 returns : tie.Need-returns Inv-loop μ-loop
-unfolding latest rival
 returns c =
-    let x = c .before .before .before .before .before .args .x .now in
-    let a = c .before .before .before .before .before .args .a in
-    let e : c .before .loop .b ≡ size x = omega (arith, c .before .before .before .size .ensures) in
-    sym
-    (kept-first (pass x (action x a)) (size x) (c .before .loop .best) (c .before .loop .from)
-    (rw (e, c .before .before .load .ensures, c .before .before .before .size .ensures) at (c .before .loop .inv .1)))
+    let e : c .before .before .before .loop .j ≡ c .before .before .before .before .before .before .before .args .count = omega arith in
+    latest-at (c .before .before .before .before .before .before .before .args .x .now) (c .before .before .before .before .before .before .before .args .list .now) (c .before .before .before .before .before .before .before .args .count) (c .before .before .before .before .before .before .before .args .a) (c .before .before .before .before .before .before .before .pre) (c .before .before .before .before .before .target .ensures) (c .before .before .before .before .place .ensures)
+    (c .before .before .before .loop .best) (c .before .before .before .loop .from) (rw e at (c .before .before .before .loop .inv .1)) (c .before .if2 .taken)
+
+returns-2 : tie.Need-returns-2 Inv-loop μ-loop
+returns-2 c =
+    let e : c .before .before .before .loop .j ≡ c .before .before .before .before .before .before .before .args .count = omega arith in
+    c .size .ensures
+    ∙ latest-none (c .before .before .before .before .before .before .before .args .x .now) (c .before .before .before .before .before .before .before .args .list .now) (c .before .before .before .before .before .before .before .args .count) (c .before .before .before .before .before .before .before .args .a) (c .before .before .before .before .before .before .before .pre) (c .before .before .before .before .before .target .ensures) (c .before .before .before .before .place .ensures)
+    (c .before .before .before .loop .best) (c .before .before .before .loop .from) (rw e at (c .before .before .before .loop .inv .1)) (c .before .if2 .left)
 
 pub latest-spec : {M : Type 1} → statement M
 latest-spec =
@@ -96,10 +109,18 @@ latest-spec =
     (λ c κs. search needs)
     (λ c κs. search needs)
     loop-holds
+    (λ c. search needs)
+    (λ c. search needs)
+    element-copy-out-b
     (λ c κs. search needs)
     (λ c κs. search needs)
     add-from
     (λ c. search needs)
     (λ c. search needs)
     loop-again
-    returns)
+    (λ c. search needs)
+    (λ c. search needs)
+    element-copy-out-result
+    (λ c κs. search needs)
+    returns
+    returns-2)

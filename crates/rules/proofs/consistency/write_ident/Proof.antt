@@ -1,8 +1,8 @@
 -- `rules::consistency::write_ident` meets its contract.
 use mathlib.Core.Path.{refl}
-use borrow.Author.Needs.{needs}
 use Rattle.model.specs.Rules.{write-ident}
-use Rattle.rules.proofs.Ways.{lower, not-lower}
+use Rattle.ordered.proofs.Ways.{lower, not-lower}
+use borrow.Author.Needs.{needs}
 use Rattle.rules.proofs.consistency.write_ident.Statement.{statement}
 use Rattle.rules.proofs.consistency.write_ident.Tie as tie
 

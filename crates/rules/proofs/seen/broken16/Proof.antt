@@ -1,9 +1,11 @@
 -- `rules::seen::broken16` meets its contract: values are compared by their bits.
-use borrow.Author.Needs.{needs}
+use mathlib.Core.Path.{sym}
 use lib.IntN.{pos}
-use Rattle.model.specs.Rules.{seen-at, seen-value, broken16}
+use Rattle.model.specs.Rules.{seen-value, broken16}
+use Rattle.ordered.proofs.Ways.{ways, flag-on, equal, unequal}
 use Rattle.rules.proofs.Values.{bits-same}
-use Rattle.rules.proofs.Ways.{ways, flag-on, equal, unequal}
+use Rattle.rules.proofs.Sources.{source-seen}
+use borrow.Author.Needs.{needs}
 use Rattle.rules.proofs.seen.broken16.Statement.{statement}
 use Rattle.rules.proofs.seen.broken16.Tie as tie
 
@@ -22,16 +24,17 @@ returns-2 c =
     )
 
 returns-3 : tie.Need-returns-3
-unfolding broken16 seen-value seen-at
+unfolding broken16 seen-value
 returns-3 c =
+    let r = flag-on (c .before .before .before .before .before .before .read .ensures) (c .before .before .before .before .before .if1 .left) in
+    let s = unequal _ (c .before .before .before .seen .ensures) (c .before .before .if2 .left) in
     rw (
-      bits-same (c .before .before .before .before .before .value .result) (c .value2 .result) (search needs) (search needs),
-      c .before .before .before .before .before .value .ensures,
+      bits-same (c .before .before .before .before .value .result) (c .value2 .result) (search needs) (search needs),
+      c .before .before .before .before .value .ensures,
       c .value2 .ensures,
-      c .before .seen-by .ensures,
-      c .before .before .load .ensures,
-      flag-on (c .before .before .before .before .before .before .before .read .ensures) (c .before .before .before .before .before .before .if1 .left),
-      ← unequal _ (c .before .before .before .before .seen .ensures) (c .before .before .before .if2 .left),
+      source-seen _ _ _ r (sym s) (c .before .before .before .before .before .before .before .before .pre .1 .entry (c .before .before .before .before .before .before .before .before .args .a) (c .before .before .before .before .before .before .before .before .pre .0)),
+      r,
+      ← s,
     )
 
 pub broken16-spec : {M : Type 1} → statement M
@@ -43,7 +46,7 @@ broken16-spec =
     (λ c κs. search needs)
     (λ c κs. search needs)
     returns-2
-    (λ c κs. search needs)
-    (λ c κs. search needs)
+    (λ c. search needs)
+    (λ c. search needs)
     (λ c κs. search needs)
     returns-3)

@@ -17,10 +17,16 @@ use Rattle.model.specs.Justified.{committing}
 use Rattle.model.proofs.Words.{bit-part}
 use Rattle.record.specs.declared.Span.{Span}
 use Rattle.record.specs.Sections.{bounded}
+use Rattle.ordered.specs.Limit.{limited}
 use Rattle.justify.specs.Numbered.{within-limit}
 use Rattle.jmm.specs.Accepted.{Accepted, Filled}
 use Rattle.record.proofs.Parts.{span-section}
 use Rattle.jmm.proofs.Laid.{length-filled, part-filled}
+
+-- the rules judge every section that is within the limit
+unlimited : (x : List ℕ) (q : Answer) → size x ≤ maxActions → limited x q ≡ q
+unfolding limited
+unlimited x q l = rw (le-leb (size x) maxActions l)
 
 -- what a question leaves in the words
 pub filled-parts : (r ws : List ℕ) (n : ℕ) {us : List ℕ} → Accepted r n (length ws) → us ≡ filled r n ws → Filled r n us
@@ -35,9 +41,11 @@ module _ (r : List ℕ) (n : ℕ) (ws : List ℕ) (f : Filled r n ws) (s : ℕ) 
       rw (k, f .parts s l) (bit-part (section r s) (f .accepted .sized s l))
 
   pub well-formed-as : {x : Span} {q : Answer} → x ≡ bounded r s →
-      q ≡ well-formed (bit rowWords (take (partWords * s + partWords - partWords * s) (drop (partWords * s) ws))) s (take (x .end - x .at) (drop (x .at) r)) →
+      (let y = take (x .end - x .at) (drop (x .at) r) in q ≡ limited y (well-formed (bit rowWords (take (partWords * s + partWords - partWords * s) (drop (partWords * s) ws))) s y)) →
       q ≡ well-formed (hb (section r s)) s (section r s)
-  well-formed-as e h = h ∙ ap₂ (λ (g : ℕ → ℕ → Bool) (y : List ℕ). well-formed g s y) shown (span-section r s _ e)
+  well-formed-as e h =
+      h ∙ ap₂ (λ (g : ℕ → ℕ → Bool) (y : List ℕ). limited y (well-formed g s y)) shown (span-section r s _ e)
+      ∙ unlimited (section r s) _ (f .accepted .sized s l)
 
 -- sections 0 and i, the words of part 0 standing first
 module _ (r : List ℕ) (n : ℕ) (ws : List ℕ) (f : Filled r n ws) where
@@ -46,8 +54,10 @@ module _ (r : List ℕ) (n : ℕ) (ws : List ℕ) (f : Filled r n ws) where
 
   -- a step G on section 0 and its part
   pub first-as : (G : (ℕ → ℕ → Bool) → List ℕ → Answer) {x : Span} {q : Answer} → 0 < n → x ≡ bounded r 0 →
-      q ≡ G (bit rowWords (take partWords ws)) (take (x .end - x .at) (drop (x .at) r)) → q ≡ G (hb (section r 0)) (section r 0)
-  first-as G l e h = h ∙ ap₂ G (shown-first l) (span-section r 0 _ e)
+      (let y = take (x .end - x .at) (drop (x .at) r) in q ≡ limited y (G (bit rowWords (take partWords ws)) y)) → q ≡ G (hb (section r 0)) (section r 0)
+  first-as G l e h =
+      h ∙ ap₂ (λ (g : ℕ → ℕ → Bool) (y : List ℕ). limited y (G g y)) (shown-first l) (span-section r 0 _ e)
+      ∙ unlimited (section r 0) _ (f .accepted .sized 0 l)
 
   in-limit : (i : ℕ) → i < n → within-limit r i ≡ true
   unfolding within-limit

@@ -111,7 +111,7 @@ fn race_in(record: &[u8], work: &[u64]) -> Answer
     let x = bounds(record, 0);
     let at = x.at;
     let end = x.end;
-    let unordered = rules::ordered(&record[at..end], 0);
+    let unordered = ordered::ordered(&record[at..end], 0);
     if unordered.n != 0 {
         return unordered;
     }

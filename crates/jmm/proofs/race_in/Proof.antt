@@ -1,5 +1,5 @@
 -- `jmm::race_in` meets its contract.
-use mathlib.Core.Path.{sym, ap, _∙_}
+use mathlib.Core.Path.{sym}
 use native.Mathlib.Omega.{arith}
 use lib.Seq.{length-take-le}
 use borrow.Author.Needs.{needs}
@@ -9,7 +9,7 @@ use Rattle.model.specs.Relations.{hb}
 use Rattle.model.specs.Layout.{section}
 use Rattle.jmm.proofs.Shown.{first-as}
 use Rattle.jmm.proofs.Chain.{ends, goes-on}
-use Rattle.record.proofs.Parts.{span-low, span-high, span-section}
+use Rattle.record.proofs.Parts.{span-low, span-high}
 use Rattle.jmm.proofs.race_in.Statement.{statement}
 use Rattle.jmm.proofs.race_in.Tie as tie
 
@@ -26,7 +26,7 @@ returns : tie.Need-returns
 unfolding race-of
 returns c =
     let x = section (c .before .before .before .before .before .before .before .args .«record» .now) 0 in
-    ends (ordered 0 x) (racing (hb x) x) (c .before .before .ordered .ensures ∙ ap (ordered 0) (span-section _ _ _ (c .before .before .before .before .bounds .ensures))) (c .if1 .taken)
+    ends (ordered 0 x) (racing (hb x) x) (first-as _ _ _ (c .before .before .before .before .before .before .before .pre) (λ h y. ordered 0 y) (omega arith) (c .before .before .before .before .bounds .ensures) (c .before .before .ordered .ensures)) (c .if1 .taken)
 
 sub-racing : tie.Need-sub-racing
 sub-racing c = span-low _ _ _ (c .before .before .before .before .bounds .ensures)
@@ -45,7 +45,7 @@ unfolding race-of
 returns-2 c =
     let x = section (c .before .before .before .before .before .before .before .before .before .before .args .«record» .now) 0 in
     let at = c .before .before .before .before .before .before .before .bounds .ensures in
-    goes-on (ordered 0 x) (racing (hb x) x) (c .before .before .before .before .before .ordered .ensures ∙ ap (ordered 0) (span-section _ _ _ at)) (c .before .before .before .if1 .left) (first-as _ _ _ (c .before .before .before .before .before .before .before .before .before .before .pre) racing (omega arith) at (c .racing .ensures))
+    goes-on (ordered 0 x) (racing (hb x) x) (first-as _ _ _ (c .before .before .before .before .before .before .before .before .before .before .pre) (λ h y. ordered 0 y) (omega arith) at (c .before .before .before .before .before .ordered .ensures)) (c .before .before .before .if1 .left) (first-as _ _ _ (c .before .before .before .before .before .before .before .before .before .before .pre) racing (omega arith) at (c .racing .ensures))
 
 pub race-in-spec : {M : Type 1} → statement M
 race-in-spec =

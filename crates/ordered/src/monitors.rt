@@ -1,7 +1,7 @@
 // 13, the monitor rule.
-use answers::NONE;
 use crate::lists;
 use crate::lists::ROOM;
+use answers::NONE;
 ghost use mathlib.Core.Path.{_≡_};
 ghost use mathlib.Core.Bool.{cond, _||_};
 ghost use lib.Dec.{eqb};

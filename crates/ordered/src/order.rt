@@ -1,8 +1,8 @@
 // 11 and 12, the order rules.
 use crate::firsts;
 use crate::firsts::KEYS;
-use answers::NONE;
 use crate::kinds;
+use answers::NONE;
 ghost use mathlib.Core.Path.{_≡_};
 ghost use Prim.Native.Nat.{_≤_, _<_};
 ghost use Rattle.model.specs.Limits.{maxActions};

@@ -1,9 +1,9 @@
 // 14, the thread rules.
 use crate::firsts;
 use crate::firsts::KEYS;
-use answers::NONE;
 use crate::lists;
 use crate::lists::ROOM;
+use answers::NONE;
 ghost use mathlib.Core.Path.{_≡_};
 ghost use Prim.Native.Nat.{_≤_, _<_};
 ghost use Rattle.model.specs.Limits.{maxActions};

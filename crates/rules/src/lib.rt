@@ -6,10 +6,10 @@ mod races;
 mod search;
 mod seen;
 
-use model::Answer;
+use answers::NONE;
 use answers::naming;
 use answers::numbered;
-use answers::NONE;
+use model::Answer;
 use ordered::lists;
 use ordered::lists::ROOM;
 ghost use mathlib.Core.Path.{_≡_};

@@ -1,8 +1,8 @@
 // The race of number 31.
 use crate::own;
 use crate::search;
-use model::Answer;
 use answers::numbered;
+use model::Answer;
 use ordered::lists;
 ghost use mathlib.Core.Path.{_≡_};
 ghost use Prim.Native.Nat.{_≤_};

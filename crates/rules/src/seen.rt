@@ -2,9 +2,9 @@
 use crate::kinds;
 use crate::own;
 use crate::search;
+use answers::NONE;
 use ordered::firsts;
 use ordered::firsts::KEYS;
-use answers::NONE;
 use ordered::lists::ROOM;
 ghost use mathlib.Core.Path.{_≡_};
 ghost use mathlib.Core.Bool.{_&&_};
@@ -91,7 +91,7 @@ fn written(x: &[u8], a: u16, w: u16) -> bool
     fields::target(x, w) == fields::target(x, a)
 }
 
-// Where an identifier stands twice, which number 5 refuses, a later action may be the write.
+// Where an identifier stands twice, which number 7 refuses, a later action may be the write.
 pub(crate) fn broken15(
     x: &[u8],
     part: &[u64],

@@ -8,7 +8,7 @@ use Rattle.model.specs.Answers.{rule, rule₂, upTo, _then_}
 use Rattle.model.specs.Layout.{section}
 use Rattle.model.specs.Justified.{committing}
 use Rattle.model.proofs.Answers.{then-assoc, Clean, clean-rule, clean-rule₂}
-use Rattle.justify.specs.Numbered.{single, apart, paired, names-two, span, numbered}
+use Rattle.justify.specs.Numbered.{single, apart, parted, paired, names-two, span, numbered}
 
 nine : (f : ℕ → Answer) → upTo 9 f ≡ f 0 then f 1 then f 2 then f 3 then f 4 then f 5 then f 6 then f 7 then f 8
 unfolding upTo
@@ -22,7 +22,7 @@ nine f =
 
 module _ (g h : ℕ → ℕ → Bool) (r : List ℕ) (i : ℕ) where
   pub in-turn : committing g h r i ≡ upTo 9 (λ k. numbered (21 + k) g h r (section r 0) (section r i) i)
-  unfolding committing numbered single apart paired
+  unfolding committing numbered single apart parted paired
   in-turn = sym (nine (λ k. numbered (21 + k) g h r (section r 0) (section r i) i))
 
   pub clean-numbered : (e f : List ℕ) (N : ℕ) → 0 < N → Clean (numbered N g h r e f i)

@@ -1,39 +1,64 @@
--- 28 by what is found once: which actions lead to one in C_i outside C_(i-1).
-use Prim.Native.Nat.{ℕ, _<_}
-use mathlib.Core.Path.{_≡_, refl, _∙_}
+-- 28 by the mask of the actions in C_i outside C_(i-1).
+use Prim.Native.Nat.{ℕ, _*_, _<_}
+use native.Mathlib.Decide.{decLt}
+use native.Mathlib.Omega.{arith}
+use mathlib.Core.Path.{_≡_, refl, sym, _∙_}
 use mathlib.Core.List.{List}
-use mathlib.Core.Bool.{Bool, true, false, not, _&&_}
-use lib.ListN.{getD}
+use mathlib.Core.Bool.{Bool, true, false, not, _&&_, and-comm}
+use Rattle.model.specs.Limits.{rowWords}
 use Rattle.model.specs.Search.{any, none}
-use Rattle.model.specs.Layout.{size, ident}
+use Rattle.model.specs.Layout.{section, size, ident}
 use Rattle.model.specs.Relations.{po, sw}
+use Rattle.model.specs.WorkArea.{bit}
 use Rattle.model.specs.Justified.{new, sufficient, missing, broken28}
 use Rattle.model.proofs.Search.{any-same}
-use Rattle.justify.specs.Found.{Found, Led, fresh, leads}
-use Rattle.justify.specs.Edge.{through, loose}
+use Rattle.justify.specs.Row.{meets}
+use Rattle.justify.specs.Found.{Heard, stage-of, fresh}
+use Rattle.edges.specs.Edge.{through, loose, acquired, released}
+use Rattle.edges.proofs.Release.{apart-sw, idle-sw}
+use Rattle.justify.specs.Numbered.{Next}
+use Rattle.justify.proofs.Words.{meets-masked}
 use Rattle.justify.proofs.Stage.{new-fresh}
 
--- the code tests l first
-regroup : (s p b l m : Bool) → s && p && b && l && m ≡ l && (s && (p && b && m))
-regroup false p b true m = refl
-regroup false p b false m = refl
+-- the code tests l after s
+regroup : (s p b l m : Bool) → s && p && b && l && m ≡ s && (l && (p && b && m))
+regroup false p b l m = refl
 regroup true false b true m = refl
 regroup true false b false m = refl
 regroup true true false true m = refl
 regroup true true false false m = refl
-regroup true true true true m = refl
-regroup true true true false m = refl
+regroup true true true l m = refl
 
-module _ (r e f : List ℕ) (h : ℕ → ℕ → Bool) (i : ℕ) (twins stages : List ℕ) (ahead : List Bool) (found : Found e f twins stages) (led : Led r e f h i stages ahead) (l : i < none) where
-  ahead-new : (y : ℕ) → y < size f → getD ahead y false ≡ any (size f) (λ z. h y z && new e f i z)
-  unfolding leads
-  ahead-new y m =
-      led .ahead-held .entry y m
-      ∙ any-same (λ z. h y z && fresh (getD stages z 0) i) (λ z. h y z && new e f i z) (size f)
-      (λ z k. rw (new-fresh e f i l z, found .stages-held .entry z k))
+module _ (r f : List ℕ) (i : ℕ) (heard mask part : List ℕ) (h : Heard r f i heard mask) (l : i < none) where
+  abbrev e : List ℕ
+  e = section r 0
 
-  pub by-lead28 : (x y : ℕ) → y < size f → broken28 h r i x y ≡ getD ahead y false && (sw f x y && loose h r f i x y)
+  abbrev hb : ℕ → ℕ → Bool
+  hb = bit rowWords part
+
+  leads : (y : ℕ) → any (64 * rowWords) (meets rowWords part mask y) ≡ any (size f) (λ z. hb y z && new e f i z)
+  leads y =
+      meets-masked rowWords (λ z. fresh (stage-of e f z) i) mask (size f) (h .new-held) (omega (arith, h .few-own)) part y
+      ∙ any-same (λ z. fresh (stage-of e f z) i && hb y z) (λ z. hb y z && new e f i z) (size f)
+      (λ z k. rw (new-fresh e f i l z) (and-comm (fresh (stage-of e f z) i) (hb y z)))
+
+  pub by-lead28 : (x y : ℕ) → broken28 hb r i x y ≡ sw f x y && (any (64 * rowWords) (meets rowWords part mask y) && loose hb r f i x y)
   unfolding broken28 sufficient loose through
-  by-lead28 x y m =
-      rw (← (led .own-section), ← (led .first-section), ahead-new y m)
-      (regroup (sw f x y) (not (po f x y)) (not (any (size f) (through h x y))) (any (size f) (λ z. h y z && new e f i z)) (missing r i (ident f x) (ident f y)))
+  by-lead28 x y =
+      rw (← (h .own-section), leads y)
+      (regroup (sw f x y) (not (po f x y)) (not (any (size f) (through hb x y))) (any (size f) (λ z. hb y z && new e f i z)) (missing r i (ident f x) (ident f y)))
+
+  -- x is asked only about what it releases
+  pub apart28 : (x y : ℕ) → (released f x ≡ acquired f y → ⊥) → broken28 hb r i x y ≡ false
+  apart28 x y n = by-lead28 x y ∙ rw (apart-sw f x y n)
+
+  pub idle28 : (x y : ℕ) → released f x ≡ 0 → broken28 hb r i x y ≡ false
+  idle28 x y n = by-lead28 x y ∙ rw (idle-sw f x y n)
+
+  -- what is passed over up to the next action that acquires what x releases
+  pub passed28 : (x from y : ℕ) → Next heard (released f x) from (size f) y → ((b : ℕ) → b < from → broken28 hb r i x b ≡ false) → (b : ℕ) → b < y → broken28 hb r i x b ≡ false
+  passed28 x from y next before b m =
+      elim (decLt b from) [
+        | yes k ↦ before b k
+        | no k ↦ apart28 x b (λ q. next .others b (omega arith) m (h .held .entry b (omega (arith, next .within)) ∙ sym q))
+      ]

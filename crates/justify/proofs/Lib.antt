@@ -1,8 +1,11 @@
--- The laws of what is found once, of the stages, of signed values and of the rules by number.
+-- The laws of what is found once, of the stages, of rows by words, of signed values and of the rules by number.
+pub mod Search
+pub mod Words
 pub mod Holds
+pub mod Least
 pub mod Stage
-pub mod Edge
 pub mod Lead
+pub mod Idle
 pub mod Signed
 pub mod Names
 pub mod Chain

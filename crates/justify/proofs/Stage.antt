@@ -11,6 +11,7 @@ use Rattle.model.specs.Layout.{size, ident, kind, commit, seen, read}
 use Rattle.model.specs.Rules.{seen-hb}
 use Rattle.model.specs.Justified.{C, C#, twin-of, new, broken26, broken27, broken29}
 use Rattle.justify.specs.Found.{lower, least-commit, stage, stage-of, fresh}
+use Rattle.justify.specs.Idle.{outside}
 
 or-false : (b : Bool) → b || false ≡ b
 or-false true = refl
@@ -76,6 +77,16 @@ module _ (e f : List ℕ) (i : ℕ) (l : i < none) where
   by-stage27 x =
       rw (new-fresh x, in-C e (seen e (twin-of f e x)) (i - 1) earlier, in-C e (seen f x) (i - 1) earlier)
 
-  pub by-stage29 : (h : ℕ → ℕ → Bool) (x y : ℕ) → broken29 h e f i x y ≡ eqb (kind f x) 11 && not (leb (stage-of e f x) i) && h x y && leb (stage-of e f y) i
-  unfolding broken29
-  by-stage29 h x y = rw (in-C e (ident f x) i l, in-C e (ident f y) i l)
+  pub by-outside29 : (h : ℕ → ℕ → Bool) (x y : ℕ) → broken29 h e f i x y ≡ h x y && (outside e f i x && leb (stage-of e f y) i)
+  unfolding broken29 outside
+  by-outside29 h x y =
+      rw (in-C e (ident f x) i l, in-C e (ident f y) i l)
+      (regroup (eqb (kind f x) 11) (not (leb (stage-of e f x) i)) (h x y) (leb (stage-of e f y) i))
+    where
+      -- the code asks h first
+      regroup : (k s g t : Bool) → k && s && g && t ≡ g && ((k && s) && t)
+      regroup false s true t = refl
+      regroup false s false t = refl
+      regroup true false true t = refl
+      regroup true false false t = refl
+      regroup true true g t = refl

@@ -1,18 +1,24 @@
--- What is found once for E and E_i and kept: r is the record, e its section 0, f its section i, h happens-before of f.
-use Prim.Native.Nat.{ℕ, zero, suc, _-_, _<_, _≤_}
+-- What is found once for E and E_i and kept: e is section 0 of the record r, f its section i.
+use Prim.Native.Nat.{ℕ, zero, suc, _-_, _%_, _<_, _≤_}
 use mathlib.Core.Path.{_≡_}
 use mathlib.Core.List.{List}
-use mathlib.Core.Bool.{Bool, false, not, cond, _&&_}
+use mathlib.Core.Bool.{Bool, not, cond, _&&_}
 use lib.ListN.{getD}
 use lib.Dec.{eqb, ltb, leb}
-use Rattle.model.specs.Limits.{maxActions}
-use Rattle.model.specs.Search.{any, none}
+use Rattle.model.specs.Limits.{maxActions, rowWords}
+use Rattle.model.specs.Search.{none}
 use Rattle.model.specs.Layout.{section, size, ident, commit}
-use Rattle.model.specs.Justified.{twin-of}
+use Rattle.model.specs.Justified.{C, twin-of}
+use Rattle.justify.specs.Row.{Masked}
+use Rattle.edges.specs.Edge.{acquired}
 
--- entry a of the list t is f a, for each a below n
-pub record Holds {A : Type 0} (d : A) (t : List A) (n : ℕ) (f : ℕ → A) : Type 0 where
-  pub entry : (a : ℕ) → a < n → getD t a d ≡ f a
+-- an identifier's slot in an index
+abbrev pub slots : ℕ
+slots = 4096
+
+-- the index t of x: in an identifier's slot stands a position at or before each action from `from` on that has it
+pub record Indexed (x t : List ℕ) (from : ℕ) : Type 0 where
+  pub early : (a : ℕ) → from ≤ a → a < size x → getD t (ident x a % slots) 0 ≤ a
 
 -- s, or the commit number of action a where that is smaller and d is a's identifier
 unfoldable pub lower : List ℕ → ℕ → ℕ → ℕ → ℕ
@@ -22,6 +28,16 @@ lower e d a s = cond (eqb (ident e a) d && ltb (commit e a) s) (commit e a) s
 unfoldable pub least-commit : List ℕ → ℕ → ℕ → ℕ
 least-commit e d zero = none
 least-commit e d (suc a) = lower e d a (least-commit e d a)
+
+-- at the first position of each identifier of e, its least commit number among the first n actions
+pub record Least (e t : List ℕ) (n : ℕ) : Type 0 where
+  pub held : (a : ℕ) → a < size e → twin-of e e a ≡ a → getD t a 0 ≡ least-commit e (ident e a) n
+
+-- by which a stage is found: the index of e, and the least commit numbers
+pub record Staged (e index least : List ℕ) : Type 0 where
+  pub few : size e ≤ maxActions
+  pub indexed : Indexed e index 0
+  pub least-held : Least e least (size e)
 
 -- the least i for which the identifier d is in C_i; the initial writes' 0 is in C_1 first
 unfoldable pub stage : List ℕ → ℕ → ℕ
@@ -35,19 +51,33 @@ stage-of e f x = stage e (ident f x)
 abbrev pub fresh : ℕ → ℕ → Bool
 fresh s i = leb s i && not (leb s (i - 1))
 
--- y hb some z "in C_i outside C_(i-1)", one of the n actions of which t has the stages
-unfoldable pub leads : (ℕ → ℕ → Bool) → List ℕ → ℕ → ℕ → ℕ → Bool
-leads h t n i y = any n (λ z. h y z && fresh (getD t z 0) i)
+-- the actions that the masks have: of e those in C_i, of f those in C_i outside C_(i-1)
+abbrev pub chosen : Bool → List ℕ → List ℕ → ℕ → ℕ → Bool
+chosen own e f i b = cond own (fresh (stage-of e f b) i) (C e i b)
 
--- the twins in f of the actions of e, and the stages of those of f
-pub record Found (e f twins stages : List ℕ) : Type 0 where
-  pub few : size e ≤ maxActions
-  pub few-own : size f ≤ maxActions
-  pub twins-held : Holds 0 twins (size e) (twin-of e f)
-  pub stages-held : Holds 0 stages (size f) (stage-of e f)
+-- the entries of the tables: what the actions of f acquire, and the twins in f of those of e
+abbrev pub entry : Bool → List ℕ → List ℕ → ℕ → ℕ
+entry own e f a = cond own (acquired f a) (twin-of e f a)
 
--- e and f are sections of r, and which actions of f lead to one in C_i outside C_(i-1)
-pub record Led (r e f : List ℕ) (h : ℕ → ℕ → Bool) (i : ℕ) (stages : List ℕ) (ahead : List Bool) : Type 0 where
+-- entry a of the list t is f a, for each a below n
+pub record Holds (t : List ℕ) (n : ℕ) (f : ℕ → ℕ) : Type 0 where
+  pub entry : (a : ℕ) → a < n → getD t a 0 ≡ f a
+
+-- what the rules are asked with: the stages, the index of f, and the twins in f of the actions of e
+pub record Asked (e f e-index f-index twins least : List ℕ) : Type 0 where
+  pub staged : Staged e e-index least
+  pub f-indexed : Indexed f f-index 0
+  pub twins-held : Holds twins (size e) (twin-of e f)
+
+-- e and f are sections 0 and i of r, f within the limit
+pub record Sections (r e f : List ℕ) (i : ℕ) : Type 0 where
   pub first-section : e ≡ section r 0
   pub own-section : f ≡ section r i
-  pub ahead-held : Holds false ahead (size f) (leads h stages (size f) i)
+  pub few-own : size f ≤ maxActions
+
+-- what an x is asked with for 28: section i of r, what its actions acquire, and the mask of those in C_i outside C_(i-1)
+pub record Heard (r f : List ℕ) (i : ℕ) (heard new : List ℕ) : Type 0 where
+  pub own-section : f ≡ section r i
+  pub few-own : size f ≤ maxActions
+  pub held : Holds heard (size f) (acquired f)
+  pub new-held : Masked rowWords new (size f) (λ z. fresh (stage-of (section r 0) f z) i)

@@ -1,4 +1,5 @@
 -- What the rules of a committing sequence are asked with, and the rules by number.
+pub mod Row
 pub mod Found
-pub mod Edge
+pub mod Idle
 pub mod Numbered

@@ -3,6 +3,7 @@ use Prim.Native.Nat.{ℕ, _<_, _≤_}
 use mathlib.Core.Path.{_≡_}
 use mathlib.Core.List.{List}
 use mathlib.Core.Bool.{Bool, true, false, cond, _&&_, _||_}
+use lib.ListN.{getD}
 use lib.Dec.{eqb, ltb, leb}
 use Rattle.model.specs.declared.Answer.{Answer}
 use Rattle.model.specs.Limits.{maxActions}
@@ -27,10 +28,13 @@ single N h e f i =
 unfoldable pub apart : ℕ → (ℕ → ℕ → Bool) → (ℕ → ℕ → Bool) → List ℕ → List ℕ → ℕ → ℕ → ℕ → Bool
 apart N g h e f i = just-one (cond (eqb N 22) g (before e)) (cond (eqb N 22) h (before f)) e f i
 
+-- the rules of two actions that need no other section: 22, 23 and 29
+unfoldable pub parted : ℕ → (ℕ → ℕ → Bool) → (ℕ → ℕ → Bool) → List ℕ → List ℕ → ℕ → ℕ → ℕ → Bool
+parted N g h e f i = cond (ltb N 26) (apart N g h e f i) (broken29 h e f i)
+
 -- the rules of two actions
 unfoldable pub paired : ℕ → (ℕ → ℕ → Bool) → (ℕ → ℕ → Bool) → List ℕ → List ℕ → List ℕ → ℕ → ℕ → ℕ → Bool
-paired N g h r e f i =
-    cond (ltb N 26) (apart N g h e f i) (cond (eqb N 28) (broken28 h r i) (broken29 h e f i))
+paired N g h r e f i = cond (eqb N 28) (broken28 h r i) (parted N g h e f i)
 
 -- the count of the actions that rule N names
 abbrev pub span : ℕ → List ℕ → List ℕ → ℕ
@@ -49,6 +53,12 @@ pub record First (n : ℕ) (p : ℕ → Bool) (a : ℕ) : Type 0 where
   pub within : a ≤ n
   pub none-before : any a p ≡ false
   pub holds : a < n → p a ≡ true
+
+-- y is the first position from `from` on, below n, at which k stands in t; n where there is none
+pub record Next (t : List ℕ) (k from n y : ℕ) : Type 0 where
+  pub onward : from ≤ y
+  pub within : y ≤ n
+  pub others : (b : ℕ) → from ≤ b → b < y → getD t b 0 ≡ k → ⊥
 
 -- sections 0 and i are within the limit
 unfoldable pub within-limit : List ℕ → ℕ → Bool

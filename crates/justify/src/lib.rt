@@ -1,31 +1,32 @@
 // Rules 21 to 29: the committing sequence, for one i. e is section 0 of the record r and f section i.
-mod edges;
 mod found;
 mod pair;
+mod release;
+mod row;
 mod single;
 
 ghost use mathlib.Core.Path.{_≡_};
 ghost use mathlib.Core.Bool.{cond};
 ghost use Prim.Native.Nat.{_≤_};
 ghost use Rattle.model.specs.Limits.{maxActions, rowWords};
-ghost use Rattle.model.specs.Answers.{pass};
+ghost use Rattle.model.specs.Answers.{answer, pass};
 ghost use Rattle.model.specs.Layout.{section, size};
 ghost use Rattle.model.specs.WorkArea.{bit};
 ghost use Rattle.model.specs.Justified.{committing};
-ghost use Rattle.justify.specs.Found.{Found, Led};
+ghost use Rattle.justify.specs.Found.{Sections, Asked};
 ghost use Rattle.justify.specs.Numbered.{span, «names-two», numbered, «within-limit»};
+use answers::NONE;
 use fields::size;
 use found::ROOM;
-use found::ahead;
-use found::stages;
-use found::twins;
+use found::SLOTS;
+use found::index;
+use found::least;
+use found::table;
 use model::Answer;
 use pair::pairs;
 use record::bounds;
+use release::edges;
 use single::singles;
-
-// No position.
-const NONE: u16 = 65535;
 
 // Nothing broken.
 const PASS: Answer = Answer {
@@ -34,6 +35,13 @@ const PASS: Answer = Answer {
     a: NONE,
     b: NONE,
 };
+
+// A rule broken in section s, by action a or by actions a and b.
+fn named(number: u8, s: u8, a: u16, b: u16) -> Answer
+    ensures { λ q. ⌜ q ≡ answer number s a b ⌝ }
+{
+    Answer { n: number, s, a, b }
+}
 
 // The first of the rules, and how many they are.
 const FIRST: u8 = 21;
@@ -67,20 +75,23 @@ fn numbered(
     f: &[u8],
     e_part: &[u64],
     f_part: &[u64],
+    e_index: &[u8; SLOTS],
+    f_index: &[u8; SLOTS],
     twins: &[u16; ROOM],
-    stages: &[u16; ROOM],
-    ahead: &[bool; ROOM],
+    least: &[u16; ROOM],
     i: u8,
 ) -> Answer
-    requires { ⌜ Found (now e) (now f) (now twins) (now stages) ⌝ }
-    requires { ⌜ Led (now r) (now e) (now f) (bit rowWords (now «f_part»)) i (now stages) (now ahead) ⌝ }
+    requires { ⌜ Sections (now r) (now e) (now f) i × Asked (now e) (now f) (now «e_index») (now «f_index») (now twins) (now least) ⌝ }
     ensures { λ q. ⌜ q ≡ numbered number (bit rowWords (now («e_part» .entry))) (bit rowWords (now («f_part» .entry))) (now (r .entry)) (now (e .entry)) (now (f .entry)) i ⌝ }
 {
+    if number == 28 {
+        return edges(r, e, f, f_part, e_index, f_index, least, i);
+    }
     let n = span(number, e, f);
     if names_two(number) {
-        pairs(number, r, e, f, e_part, f_part, twins, stages, ahead, i, n)
+        pairs(number, e, f, e_part, f_part, e_index, twins, least, i, n)
     } else {
-        singles(number, e, f, f_part, twins, stages, i, n)
+        singles(number, e, f, f_part, e_index, f_index, twins, least, i, n)
     }
 }
 
@@ -91,17 +102,30 @@ fn in_order(
     f: &[u8],
     e_part: &[u64],
     f_part: &[u64],
+    e_index: &[u8; SLOTS],
+    f_index: &[u8; SLOTS],
     twins: &[u16; ROOM],
-    stages: &[u16; ROOM],
-    ahead: &[bool; ROOM],
+    least: &[u16; ROOM],
     i: u8,
 ) -> Answer
-    requires { ⌜ Found (now e) (now f) (now twins) (now stages) ⌝ }
-    requires { ⌜ Led (now r) (now e) (now f) (bit rowWords (now «f_part»)) i (now stages) (now ahead) ⌝ }
+    requires { ⌜ Sections (now r) (now e) (now f) i × Asked (now e) (now f) (now «e_index») (now «f_index») (now twins) (now least) ⌝ }
     ensures { λ q. ⌜ q ≡ committing (bit rowWords (now («e_part» .entry))) (bit rowWords (now («f_part» .entry))) (now (r .entry)) i ⌝ }
 {
     for k in 0..RULES {
-        let q = numbered(FIRST + k, r, e, f, e_part, f_part, twins, stages, ahead, i);
+        let number = FIRST + k;
+        let q = numbered(
+            number,
+            r,
+            e,
+            f,
+            e_part,
+            f_part,
+            e_index,
+            f_index,
+            twins,
+            least,
+            i,
+        );
         if q.n != 0 {
             return q;
         }
@@ -114,10 +138,22 @@ fn judge(r: &[u8], e: &[u8], f: &[u8], e_part: &[u64], f_part: &[u64], i: u8) ->
     requires { ⌜ (now e ≡ section (now r) 0) × (now f ≡ section (now r) i) × (size (now e) ≤ maxActions) × (size (now f) ≤ maxActions) ⌝ }
     ensures { λ q. ⌜ q ≡ committing (bit rowWords (now («e_part» .entry))) (bit rowWords (now («f_part» .entry))) (now (r .entry)) i ⌝ }
 {
-    let twins = twins(e, f);
-    let stages = stages(e, f);
-    let ahead = ahead(f_part, &stages, size(f), i);
-    in_order(r, e, f, e_part, f_part, &twins, &stages, &ahead, i)
+    let e_index = index(e);
+    let f_index = index(f);
+    let twins = table(false, e, f, &f_index, size(e));
+    let least = least(e, &e_index);
+    in_order(
+        r,
+        e,
+        f,
+        e_part,
+        f_part,
+        &e_index,
+        &f_index,
+        &twins,
+        &least,
+        i,
+    )
 }
 
 // 21 to 29 for i, where the words of happens-before of sections 0 and i are `e_part` and `f_part`. A section over the limit is in no record that

@@ -13,18 +13,18 @@ use Rattle.justify.proofs.in_order.Statement.{statement}
 use Rattle.justify.proofs.in_order.Tie as tie
 
 abbrev Inv-loop : tie.InvT-loop
-Inv-loop r e f e-part f-part twins stages ahead i k₀ k =
+Inv-loop r e f e-part f-part e-index f-index twins least i k₀ k =
     (k ≤ 9) × (upTo k (λ j. numbered (21 + j) (bit rowWords e-part) (bit rowWords f-part) r e f i) ≡ pass)
 
 abbrev μ-loop : tie.MeasureT-loop
-μ-loop r e f e-part f-part twins stages ahead i k₀ k = 9 - k
+μ-loop r e f e-part f-part e-index f-index twins least i k₀ k = 9 - k
 
 loop-holds : tie.Need-loop-holds Inv-loop μ-loop
 loop-holds c = (search needs, upTo-none _)
 
 returns : tie.Need-returns Inv-loop μ-loop
 returns c =
-    rw (in-turn, ← (c .before .before .before .before .before .before .before .before .before .before .pre .1 .first-section), ← (c .before .before .before .before .before .before .before .before .before .before .pre .1 .own-section))
+    rw (in-turn, ← (c .before .before .before .before .before .before .before .before .before .before .pre .0 .first-section), ← (c .before .before .before .before .before .before .before .before .before .before .pre .0 .own-section))
     (c .before .before .numbered .ensures ∙ sym (upTo-at _ _ _ (c .before .before .before .loop-test .taken) (c .before .before .before .before .loop .inv .1) (λ z. c .if1 .taken (rw (c .before .before .numbered .ensures) z))))
 
 loop-again : tie.Need-loop-again Inv-loop μ-loop
@@ -38,7 +38,7 @@ loop-again c =
 returns-2 : tie.Need-returns-2 Inv-loop μ-loop
 returns-2 c =
     let e : c .before .loop .k ≡ 9 = omega arith in
-    rw (in-turn, ← (c .before .before .before .before .before .before .before .pre .1 .first-section), ← (c .before .before .before .before .before .before .before .pre .1 .own-section)) (sym (rw e at (c .before .loop .inv .1)))
+    rw (in-turn, ← (c .before .before .before .before .before .before .before .pre .0 .first-section), ← (c .before .before .before .before .before .before .before .pre .0 .own-section)) (sym (rw e at (c .before .loop .inv .1)))
 
 pub in-order-spec : {M : Type 1} → statement M
 in-order-spec =

@@ -1,27 +1,26 @@
--- `justify::judge` meets its contract.
+-- `justify::judge` meets its contract: what the rules are asked with is found.
 use borrow.Author.Needs.{needs}
 use Rattle.justify.proofs.judge.Statement.{statement}
 use Rattle.justify.proofs.judge.Tie as tie
 
 in-order-requires : tie.Need-in-order-requires
-in-order-requires c κs = (
-  record {
-    few = c .before .before .before .before .before .before .before .before .before .before .before .before .before .pre .2;
-    few-own = c .before .before .before .before .before .before .before .before .before .before .before .before .before .pre .3;
-    twins-held = c .before .before .before .before .before .before .before .twins .ensures;
-    stages-held = c .before .before .before .before .before .before .stages .ensures;
-  },
-  record {
-    first-section = c .before .before .before .before .before .before .before .before .before .before .before .before .before .pre .0;
-    own-section = c .before .before .before .before .before .before .before .before .before .before .before .before .before .pre .1;
-    ahead-held = rw (c .before .before .before .before .size .ensures) at (c .before .before .before .ahead .ensures);
-  },
-)
+in-order-requires c κs =
+    let twins = c .before .before .before .before .before .before in
+    let indexed = twins .before .before .before in
+    let pre = c .before .before .before .before .before .before .before .before .before .before .before .before .before .before .before .before .pre in (
+      record { first-section = pre .0; own-section = pre .1; few-own = pre .3 },
+      record {
+        staged = record { few = pre .2; indexed = indexed .before .index .ensures; least-held = c .before .before .before .before .least .ensures };
+        f-indexed = indexed .index2 .ensures;
+        twins-held = rw (twins .before .size .ensures) at (twins .table .ensures);
+      },
+    )
 
 pub judge-spec : {M : Type 1} → statement M
 judge-spec =
     tie.close
     (tie.spec
+    (λ c κs. search needs)
     (λ c κs. search needs)
     (λ c κs. search needs)
     (λ c κs. search needs)

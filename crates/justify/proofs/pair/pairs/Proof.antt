@@ -1,7 +1,7 @@
 -- `justify::pair::pairs` meets its contract. The loop's invariant: no action before x breaks the rule with any.
 use Prim.Native.Nat.{_≤_, _-_}
 use native.Mathlib.Omega.{arith}
-use mathlib.Core.Path.{_≡_, sym}
+use mathlib.Core.Path.{_≡_, sym, _∙_}
 use mathlib.Core.Bool.{false}
 use borrow.Author.Needs.{needs}
 use Rattle.model.specs.Limits.{rowWords}
@@ -9,40 +9,55 @@ use Rattle.model.specs.Search.{any, none}
 use Rattle.model.specs.WorkArea.{bit}
 use Rattle.model.proofs.Search.{any-none, any-pass}
 use Rattle.model.proofs.Answers.{rule₂-none, rule₂-at}
-use Rattle.justify.specs.Numbered.{paired}
+use Rattle.justify.specs.Numbered.{parted}
 use Rattle.justify.proofs.Names.{none-holds}
 use Rattle.justify.proofs.pair.pairs.Statement.{statement}
 use Rattle.justify.proofs.pair.pairs.Tie as tie
 
 abbrev Inv-loop : tie.InvT-loop
-Inv-loop number r e f e-part f-part twins stages ahead i n x₀ x =
-    (x ≤ n) × (any x (λ a. any n (paired number (bit rowWords e-part) (bit rowWords f-part) r e f i a)) ≡ false)
+Inv-loop number e f e-part f-part index twins least i n mask calm x₀ x =
+    (x ≤ n) × (any x (λ a. any n (parted number (bit rowWords e-part) (bit rowWords f-part) e f i a)) ≡ false)
 
 abbrev μ-loop : tie.MeasureT-loop
-μ-loop number r e f e-part f-part twins stages ahead i n x₀ x = n - x
+μ-loop number e f e-part f-part index twins least i n mask calm x₀ x = n - x
+
+mask-requires : tie.Need-mask-requires Inv-loop μ-loop
+mask-requires c κs = let staged = c .before .before .before .before .before .pre .0 .0 in (staged, rw (c .size .ensures) (staged .few))
+
+calm-requires : tie.Need-calm-requires Inv-loop μ-loop
+calm-requires c κs = let pre = c .before .before .before .before .before .before .pre in (pre .0 .0 .few, pre .0 .1)
 
 loop-holds : tie.Need-loop-holds Inv-loop μ-loop
 loop-holds c = (search needs, any-none _)
 
 row-requires : tie.Need-row-requires Inv-loop μ-loop
 row-requires c κs =
-    let pre = c .before .before .before .before .before .before .before .pre in (pre .0, (pre .1 .0, (pre .1 .1, c .loop-test .taken)))
+    let pre = c .before .before .before .before .before .before .before .before .before .before .pre in
+    let mask = c .before .before .before .before in (
+      pre .0,
+      (
+        record { committed-held = rw (mask .before .size .ensures) at (mask .mask .ensures); none-strays = c .before .before .before .calm .ensures },
+        (pre .1, c .before .loop-test .taken),
+      ),
+    )
 
 returns : tie.Need-returns Inv-loop μ-loop
 returns c =
-    let few : c .before .before .before .before .before .before .before .before .before .args .n ≤ none = omega arith in
-    let first = c .before .row .ensures in
-    sym
-    (rule₂-at _ _ _ _ _ _ few (c .before .before .loop-test .taken) (c .if1 .taken) (c .before .before .before .loop .inv .1) (first .none-before)
-    (first .holds (c .if1 .taken)))
+    let start = c .before .before .before .before .before .before .before .before .before .before .before .before .before in
+    let few : start .args .n ≤ none = omega (arith, start .fits) in
+    let first = c .before .before .row .ensures in
+    c .named .ensures
+    ∙ sym
+    (rule₂-at _ _ _ _ _ _ few (c .before .before .before .before .loop-test .taken) (c .before .if1 .taken) (c .before .before .before .before .before .loop .inv .1) (first .none-before)
+    (first .holds (c .before .if1 .taken)))
 
 loop-again : tie.Need-loop-again Inv-loop μ-loop
 loop-again c =
-    (search needs, any-pass _ _ (c .before .before .before .loop .inv .1) (none-holds _ _ _ (c .before .row .ensures) (c .if1 .left)))
+    (search needs, any-pass _ _ (c .before .before .before .before .loop .inv .1) (none-holds _ _ _ (c .before .row .ensures) (c .if1 .left)))
 
 returns-2 : tie.Need-returns-2 Inv-loop μ-loop
 returns-2 c =
-    let e : c .before .loop .x ≡ c .before .before .before .before .before .before .before .args .n = omega arith in
+    let e : c .before .loop .x ≡ c .before .before .before .before .before .before .before .before .before .args .n = omega arith in
     sym (rule₂-none _ _ _ _ (rw e at (c .before .loop .inv .1)))
 
 pub pairs-spec : {M : Type 1} → statement M
@@ -51,8 +66,12 @@ pairs-spec =
     (tie.spec
     Inv-loop
     μ-loop
+    (λ c κs. search needs)
+    mask-requires
+    calm-requires
     loop-holds
     row-requires
+    (λ c κs. search needs)
     returns
     (λ c. search needs)
     (λ c. search needs)

@@ -1,48 +1,60 @@
--- `justify::pair::row` meets its contract. The loop's invariant: x breaks the rule with no action before y.
-use Prim.Native.Nat.{_≤_, _-_}
+-- `justify::pair::row` meets its contract: x breaks the rule with no action before y, and where it is idle with none.
+use Prim.Native.Nat.{_<_, _≤_, _-_}
 use native.Mathlib.Omega.{arith}
 use mathlib.Core.Path.{_≡_}
 use mathlib.Core.Bool.{false}
 use borrow.Author.Needs.{needs}
 use Rattle.model.specs.Limits.{rowWords}
-use Rattle.model.specs.Search.{any}
+use Rattle.model.specs.Search.{any, none}
 use Rattle.model.specs.WorkArea.{bit}
 use Rattle.model.proofs.Search.{any-none, any-pass}
-use Rattle.justify.specs.Numbered.{paired}
+use Rattle.justify.specs.Numbered.{parted}
+use Rattle.justify.proofs.Search.{nowhere}
 use Rattle.justify.proofs.Names.{first-none}
+use Rattle.justify.proofs.Idle.{none-breaks}
 use Rattle.justify.proofs.pair.row.Statement.{statement}
 use Rattle.justify.proofs.pair.row.Tie as tie
 
 abbrev Inv-loop : tie.InvT-loop
-Inv-loop number r e f e-part f-part twins stages ahead i n x y₀ y =
-    (y ≤ n) × (any y (paired number (bit rowWords e-part) (bit rowWords f-part) r e f i x) ≡ false)
+Inv-loop number e f e-part f-part index twins least mask calm i n x y₀ y =
+    (y ≤ n) × (any y (parted number (bit rowWords e-part) (bit rowWords f-part) e f i x) ≡ false)
 
 abbrev μ-loop : tie.MeasureT-loop
-μ-loop number r e f e-part f-part twins stages ahead i n x y₀ y = n - y
+μ-loop number e f e-part f-part index twins least mask calm i n x y₀ y = n - y
+
+pair-requires : tie.Need-pair-requires Inv-loop μ-loop
+pair-requires c κs =
+    let pre = c .before .before .before .before .before .before .before .before .pre in
+    (pre .0, (rw (← (pre .1 .1 .0)) (pre .1 .1 .1), rw (← (pre .1 .1 .0)) (c .loop-test .taken)))
+
+returns : tie.Need-returns Inv-loop μ-loop
+returns c =
+    let start = c .before .before .before .before .before .before in
+    let pre = start .pre in
+    let l : start .args .i < none = omega arith in
+    let n = pre .1 .1 .0 in
+    first-none _ _
+    (nowhere _ _
+    (λ y m. none-breaks _ _ _ _ _ _ _ _ (pre .0 .0 .few) (pre .1 .0) l _ y (rw (c .before .idle .ensures) at (c .if1 .taken)) (rw n at (pre .1 .1 .1)) (rw n at m)))
 
 loop-holds : tie.Need-loop-holds Inv-loop μ-loop
 loop-holds c = (search needs, any-none _)
 
-pair-requires : tie.Need-pair-requires Inv-loop μ-loop
-pair-requires c κs =
-    let pre = c .before .before .before .before .before .before .before .pre in
-    (pre .0, (pre .1 .0, (rw (← (pre .1 .1 .0)) (pre .1 .1 .1), rw (← (pre .1 .1 .0)) (c .loop-test .taken))))
-
-returns : tie.Need-returns Inv-loop μ-loop
-returns c =
+returns-2 : tie.Need-returns-2 Inv-loop μ-loop
+returns-2 c =
     record {
       within = search needs;
       none-before = c .before .before .before .loop .inv .1;
-      holds = λ l. rw (c .before .pair .ensures) at (c .if1 .taken);
+      holds = λ l. rw (c .before .pair .ensures) at (c .if2 .taken);
     }
 
 loop-again : tie.Need-loop-again Inv-loop μ-loop
 loop-again c =
-    (search needs, any-pass _ _ (c .before .before .before .loop .inv .1) (rw (c .before .pair .ensures) at (c .if1 .left)))
+    (search needs, any-pass _ _ (c .before .before .before .loop .inv .1) (rw (c .before .pair .ensures) at (c .if2 .left)))
 
-returns-2 : tie.Need-returns-2 Inv-loop μ-loop
-returns-2 c =
-    let e : c .before .loop .y ≡ c .before .before .before .before .before .before .before .args .n = omega arith in
+returns-3 : tie.Need-returns-3 Inv-loop μ-loop
+returns-3 c =
+    let e : c .before .loop .y ≡ c .before .before .before .before .before .before .before .before .args .n = omega arith in
     first-none _ _ (rw e at (c .before .loop .inv .1))
 
 pub row-spec : {M : Type 1} → statement M
@@ -51,10 +63,12 @@ row-spec =
     (tie.spec
     Inv-loop
     μ-loop
+    (λ c κs. search needs)
+    returns
     loop-holds
     pair-requires
-    returns
+    returns-2
     (λ c. search needs)
     (λ c. search needs)
     loop-again
-    returns-2)
+    returns-3)

@@ -14,4 +14,9 @@ unfolding broken21
 returns-2 c = rw (← (c .before .committed .ensures), c .if1 .left)
 
 pub broken21-spec : {M : Type 1} → statement M
-broken21-spec = tie.close (tie.spec (λ c κs. search needs) (λ c κs. search needs) returns returns-2)
+broken21-spec = tie.close
+    (tie.spec
+    (λ c κs. search needs)
+    (λ c κs. search needs)
+    returns
+    returns-2)

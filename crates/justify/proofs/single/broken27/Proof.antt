@@ -12,57 +12,59 @@ use Rattle.justify.proofs.single.broken27.Tie as tie
 
 returns : tie.Need-returns
 returns c =
-    let e = now (c .before .before .before .before .before .before .before .before .before .before .before .before .args .e) in
-    let f = now (c .before .before .before .before .before .before .before .before .before .before .before .before .args .f) in
-    let l : c .before .before .before .before .before .before .before .before .before .before .before .before .args .i < none = omega arith in
+    let start = c .before .before .before .before .before .before .before .before .before .before .before .before .before in
+    let l : start .args .i < none = omega arith in
+    let at = c .before .before .before .before in
+    let asked = at .before .before .before .before in
     rw (
-      by-stage27 e f (c .before .before .before .before .before .before .before .before .before .before .before .before .args .i) l (c .before .before .before .before .before .before .before .before .before .before .before .before .args .x),
-      ← (c .before .before .before .before .before .before .before .before .before .before .before .before .pre),
-      ← (c .before .before .before .before .before .before .before .before .before .read .ensures),
-      c .before .before .before .before .before .before .before .before .if1 .taken,
-      ← (c .before .before .before .before .before .before .before .fresh .ensures),
-      c .before .before .before .before .before .before .if2 .taken,
-      ← (c .before .before .before .before .ident .ensures),
+      by-stage27 (now (start .args .e)) (now (start .args .f)) (start .args .i) l (start .args .x),
+      ← (asked .before .before .read .ensures),
+      asked .before .if1 .taken,
+      ← (asked .ident .ensures),
+      ← (at .before .before .before .stage .ensures),
+      ← (at .before .before .fresh .ensures),
+      at .before .if2 .taken,
       ← (c .before .before .before .twin .ensures),
       ← (c .before .before .seen .ensures),
-      ← (c .before .stage .ensures),
-      ← (c .before .before .before .before .before .previous .ensures),
+      ← (c .before .stage2 .ensures),
+      ← (at .previous .ensures),
       lt-leb _ _ (c .if3 .taken),
     )
 
 returns-2 : tie.Need-returns-2
 returns-2 c =
-    let e = now (c .before .before .before .before .before .before .before .before .before .before .before .before .before .before .args .e) in
-    let f = now (c .before .before .before .before .before .before .before .before .before .before .before .before .before .before .args .f) in
-    let l : c .before .before .before .before .before .before .before .before .before .before .before .before .before .before .args .i < none = omega arith in
+    let start = c .before .before .before .before .before .before .before .before .before .before .before .before .before .before .before in
+    let l : start .args .i < none = omega arith in
+    let at = c .before .before .before .before .before .before in
+    let asked = at .before .before .before .before in
     rw (
-      by-stage27 e f (c .before .before .before .before .before .before .before .before .before .before .before .before .before .before .args .i) l (c .before .before .before .before .before .before .before .before .before .before .before .before .before .before .args .x),
-      ← (c .before .before .before .before .before .before .before .before .before .before .before .before .before .before .pre),
-      ← (c .before .before .before .before .before .before .before .before .before .before .before .read .ensures),
-      c .before .before .before .before .before .before .before .before .before .before .if1 .taken,
-      ← (c .before .before .before .before .before .before .before .before .before .fresh .ensures),
-      c .before .before .before .before .before .before .before .before .if2 .taken,
-      ← (c .before .before .before .before .before .before .ident .ensures),
+      by-stage27 (now (start .args .e)) (now (start .args .f)) (start .args .i) l (start .args .x),
+      ← (asked .before .before .read .ensures),
+      asked .before .if1 .taken,
+      ← (asked .ident .ensures),
+      ← (at .before .before .before .stage .ensures),
+      ← (at .before .before .fresh .ensures),
+      at .before .if2 .taken,
       ← (c .before .before .before .before .before .twin .ensures),
       ← (c .before .before .before .before .seen .ensures),
-      ← (c .before .before .before .stage .ensures),
-      ← (c .before .before .before .before .before .before .before .previous .ensures),
+      ← (c .before .before .before .stage2 .ensures),
+      ← (at .previous .ensures),
       le-leb _ _ (c .before .before .if3 .left),
       ← (c .before .seen2 .ensures),
-      ← (c .stage2 .ensures),
+      ← (c .stage3 .ensures),
     )
-    (not-leb (c .before .before .before .before .before .before .before .previous .result) (c .stage2 .result))
+    (not-leb (at .previous .result) (c .stage3 .result))
 
 returns-3 : tie.Need-returns-3
 returns-3 c =
-    let e = now (c .before .before .before .before .before .before .args .e) in
-    let f = now (c .before .before .before .before .before .before .args .f) in
-    let l : c .before .before .before .before .before .before .args .i < none = omega arith in
+    let start = c .before .before .before .before .before .before .before .before in
+    let l : start .args .i < none = omega arith in
     rw (
-      by-stage27 e f (c .before .before .before .before .before .before .args .i) l (c .before .before .before .before .before .before .args .x),
-      ← (c .before .before .before .before .before .before .pre),
-      ← (c .before .before .before .read .ensures),
-      c .before .before .if1 .taken,
+      by-stage27 (now (start .args .e)) (now (start .args .f)) (start .args .i) l (start .args .x),
+      ← (c .before .before .before .before .before .read .ensures),
+      c .before .before .before .before .if1 .taken,
+      ← (c .before .before .before .ident .ensures),
+      ← (c .before .before .stage .ensures),
       ← (c .before .fresh .ensures),
       c .if2 .left,
     )
@@ -78,8 +80,9 @@ broken27-spec =
     (λ c κs. search needs)
     (λ c κs. search needs)
     (λ c κs. search needs)
-    (λ c. search needs)
     (λ c κs. search needs)
+    (λ c κs. search needs)
+    (λ c. search needs)
     (λ c κs. search needs)
     (λ c κs. search needs)
     (λ c κs. search needs)

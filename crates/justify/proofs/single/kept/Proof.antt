@@ -1,4 +1,4 @@
--- `justify::single::kept` meets its contract. The loop's invariant: no action of f before x is like a.
+-- `justify::single::kept` meets its contract.
 use Prim.Native.Nat.{_≤_, _-_}
 use native.Mathlib.Omega.{arith}
 use mathlib.Core.Path.{_≡_, sym}
@@ -11,28 +11,32 @@ use Rattle.justify.proofs.single.kept.Statement.{statement}
 use Rattle.justify.proofs.single.kept.Tie as tie
 
 abbrev Inv-loop : tie.InvT-loop
-Inv-loop e f a n x₀ x = (x ≤ n) × (any x (alike e f a) ≡ false)
+Inv-loop e f x a n y₀ y = (y ≤ n) × (any y (alike e f a) ≡ false)
 
 abbrev μ-loop : tie.MeasureT-loop
-μ-loop e f a n x₀ x = n - x
+μ-loop e f x a n y₀ y = n - y
+
+returns : tie.Need-returns Inv-loop μ-loop
+returns c =
+    sym (any-at _ _ _ (rw (c .before .before .before .size .ensures) at (c .before .before .if1 .taken)) (rw (c .before .alike .ensures) at (c .if2 .taken)))
 
 loop-holds : tie.Need-loop-holds Inv-loop μ-loop
 loop-holds c = (search needs, any-none _)
 
-returns : tie.Need-returns Inv-loop μ-loop
-returns c =
-    sym (any-at _ _ (c .before .before .before .loop .x) (search needs) (rw (c .before .alike .ensures) at (c .if1 .taken)))
+returns-2 : tie.Need-returns-2 Inv-loop μ-loop
+returns-2 c =
+    sym (any-at _ _ (c .before .before .before .loop .y) (search needs) (rw (c .before .alike2 .ensures) at (c .if3 .taken)))
 
 loop-again : tie.Need-loop-again Inv-loop μ-loop
 loop-again c = (
   search needs,
-  any-pass _ _ (c .before .before .before .loop .inv .1) (rw (c .before .alike .ensures) at (c .if1 .left)),
+  any-pass _ _ (c .before .before .before .loop .inv .1) (rw (c .before .alike2 .ensures) at (c .if3 .left)),
 )
 
-returns-2 : tie.Need-returns-2 Inv-loop μ-loop
-returns-2 c =
-    let e : c .before .loop .x ≡ c .before .before .size .result = omega arith in
-    rw (← (c .before .before .size .ensures), ← e) (sym (c .before .loop .inv .1))
+returns-3 : tie.Need-returns-3 Inv-loop μ-loop
+returns-3 c =
+    let e : c .before .loop .y ≡ c .before .before .before .size .result = omega arith in
+    rw (← (c .before .before .before .size .ensures), ← e) (sym (c .before .loop .inv .1))
 
 pub kept-spec : {M : Type 1} → statement M
 kept-spec =
@@ -41,10 +45,12 @@ kept-spec =
     Inv-loop
     μ-loop
     (λ c κs. search needs)
-    loop-holds
     (λ c κs. search needs)
     returns
+    loop-holds
+    (λ c κs. search needs)
+    returns-2
     (λ c. search needs)
     (λ c. search needs)
     loop-again
-    returns-2)
+    returns-3)

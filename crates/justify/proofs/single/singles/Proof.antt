@@ -1,7 +1,7 @@
 -- `justify::single::singles` meets its contract. The loop's invariant: no action before a breaks the rule.
 use Prim.Native.Nat.{_≤_, _-_}
 use native.Mathlib.Omega.{arith}
-use mathlib.Core.Path.{_≡_, sym}
+use mathlib.Core.Path.{_≡_, sym, _∙_}
 use mathlib.Core.Bool.{false}
 use borrow.Author.Needs.{needs}
 use Rattle.model.specs.Limits.{rowWords}
@@ -14,10 +14,10 @@ use Rattle.justify.proofs.single.singles.Statement.{statement}
 use Rattle.justify.proofs.single.singles.Tie as tie
 
 abbrev Inv-loop : tie.InvT-loop
-Inv-loop number e f part twins stages i n a₀ a = (a ≤ n) × (any a (single number (bit rowWords part) e f i) ≡ false)
+Inv-loop number e f part e-index f-index twins least i n a₀ a = (a ≤ n) × (any a (single number (bit rowWords part) e f i) ≡ false)
 
 abbrev μ-loop : tie.MeasureT-loop
-μ-loop number e f part twins stages i n a₀ a = n - a
+μ-loop number e f part e-index f-index twins least i n a₀ a = n - a
 
 loop-holds : tie.Need-loop-holds Inv-loop μ-loop
 loop-holds c = (search needs, any-none _)
@@ -27,8 +27,8 @@ single-requires c κs = (c .before .before .before .before .before .pre .0, rw (
 
 returns : tie.Need-returns Inv-loop μ-loop
 returns c =
-    let few : c .before .before .before .before .before .before .before .args .n ≤ none = omega arith in
-    sym (rule-at _ _ _ _ _ few (c .before .before .loop-test .taken) (c .before .before .before .loop .inv .1) (rw (c .before .single .ensures) at (c .if1 .taken)))
+    let few : c .before .before .before .before .before .before .before .before .args .n ≤ none = omega arith in
+    c .named .ensures ∙ sym (rule-at _ _ _ _ _ few (c .before .before .before .loop-test .taken) (c .before .before .before .before .loop .inv .1) (rw (c .before .before .single .ensures) at (c .before .if1 .taken)))
 
 loop-again : tie.Need-loop-again Inv-loop μ-loop
 loop-again c =
@@ -47,6 +47,7 @@ singles-spec =
     μ-loop
     loop-holds
     single-requires
+    (λ c κs. search needs)
     returns
     (λ c. search needs)
     (λ c. search needs)

@@ -16,4 +16,10 @@ returns-2 c =
     rw (← (c .before .before .before .seen .ensures), ne-eqb _ _ (c .before .before .if1 .left), c .get .ensures, c .before .twin .ensures)
 
 pub unseen-spec : {M : Type 1} → statement M
-unseen-spec = tie.close (tie.spec (λ c κs. search needs) returns (λ c κs. search needs) (λ c κs. search needs) returns-2)
+unseen-spec = tie.close
+    (tie.spec
+    (λ c κs. search needs)
+    returns
+    (λ c κs. search needs)
+    (λ c κs. search needs)
+    returns-2)

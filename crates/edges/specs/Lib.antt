@@ -1,0 +1,2 @@
+-- What 28 asks of an edge.
+pub mod Edge

@@ -1,0 +1,19 @@
+-- `justify::found::entry` meets its contract.
+use borrow.Author.Needs.{needs}
+use Rattle.justify.proofs.found.entry.Statement.{statement}
+use Rattle.justify.proofs.found.entry.Tie as tie
+
+returns : tie.Need-returns
+returns c = rw (c .before .if1 .taken) (c .acquired .ensures)
+
+returns-2 : tie.Need-returns-2
+returns-2 c = rw (c .before .before .if1 .left, ← (c .before .ident .ensures)) (c .twin .ensures)
+
+pub entry-spec : {M : Type 1} → statement M
+entry-spec = tie.close
+    (tie.spec
+    (λ c κs. search needs)
+    (λ c κs. search needs)
+    (λ c κs. search needs)
+    returns
+    returns-2)

@@ -1,0 +1,24 @@
+-- `justify::pair::outside` meets its contract.
+use borrow.Author.Needs.{needs}
+use borrow.Author.Tests.{eq-eqb, ne-eqb}
+use Rattle.justify.specs.Idle.{outside}
+use Rattle.justify.proofs.Stage.{not-leb}
+use Rattle.justify.proofs.pair.outside.Statement.{statement}
+use Rattle.justify.proofs.pair.outside.Tie as tie
+
+returns : tie.Need-returns
+unfolding outside
+returns c = rw (← (c .before .before .before .kind .ensures), eq-eqb _ _ (c .before .before .if1 .taken), ← (c .before .ident .ensures), ← (c .stage .ensures)) (not-leb (c .before .before .before .before .before .before .args .i) (c .stage .result))
+
+returns-2 : tie.Need-returns-2
+unfolding outside
+returns-2 c = rw (← (c .before .kind .ensures), ne-eqb _ _ (c .if1 .left))
+
+pub outside-spec : {M : Type 1} → statement M
+outside-spec = tie.close
+    (tie.spec
+    (λ c κs. search needs)
+    (λ c κs. search needs)
+    (λ c κs. search needs)
+    returns
+    returns-2)

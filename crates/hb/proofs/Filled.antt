@@ -4,7 +4,7 @@ use native.Mathlib.Nat.{eq-or-lt-of-le}
 use native.Mathlib.Omega.{arith}
 use mathlib.Core.Path.{_≡_, refl, sym, ap, _∙_}
 use mathlib.Core.List.{List}
-use mathlib.Core.Bool.{Bool, true, false, _&&_, _||_, or-true, or-false, and-false, and-eq-true-iff}
+use mathlib.Core.Bool.{Bool, true, false, not, _&&_, _||_, or-true, or-false, and-false, and-eq-true-iff}
 use mathlib.Core.Logic.{_⊎_, inl, inr, ⊎-elim}
 use lib.ListN.{length}
 use lib.Dec.{eqb, ltb, leb}
@@ -19,11 +19,14 @@ use Rattle.model.proofs.Closure.{Path⁺, one, join, via, Through, via-within, 
 use Rattle.rows.specs.Steps.{rounded}
 use Rattle.rows.proofs.Steps.{rounded-rows}
 use Rattle.hb.specs.Listing.{receives, entry, Listed}
-use Rattle.hb.specs.Passing.{held, hands, leads}
+use Rattle.lined.specs.Line.{unfit, late, lined, filled}
+use Rattle.lined.specs.Passing.{held}
+use Rattle.lined.proofs.Searches.{any-elim}
+use Rattle.lined.proofs.Passing.{table-same}
+use Rattle.hb.specs.Passing.{hands, leads}
 use Rattle.hb.specs.Edges.{rounds, happens}
-use Rattle.hb.proofs.Marked.{held-same}
 use Rattle.hb.proofs.Listing.{entry-inside}
-use Rattle.hb.proofs.Hands.{any-elim, hands-to}
+use Rattle.hb.proofs.Hands.{hands-to}
 
 module _ (x : List ℕ) where
   abbrev n : ℕ
@@ -124,11 +127,11 @@ module _ (x : List ℕ) where
         ∙ rounded-rows rowWords maxActions (via led (entry at) i) n (entry at i) (omega arith) few few
         (via-within led (entry at) n within i) (entry-inside x n at m list i (omega arith))
 
-    filled : rounds n at m (held led) ≡ part x
+    rounds-part : rounds n at m (held led) ≡ part x
     unfolding part hb
-    filled =
+    rounds-part =
         rounds-rows m (omega arith)
-        ∙ held-same _ (reach (edge x) n) (via-reach (edge x) led n within edge-led led-edges (entry at) m cover)
+        ∙ table-same maxActions _ (reach (edge x) n) (via-reach (edge x) led n within edge-led led-edges (entry at) m cover)
 
 module _ (x ws : List ℕ) where
   pub happens-part : length ws ≡ partWords → size x ≤ maxActions → happens x ws ≡ part x
@@ -140,7 +143,7 @@ module _ (x ws : List ℕ) where
       {k m : ℕ} {at us vs : List ℕ} → length ws ≡ partWords → k ≡ size x → k ≤ maxActions → Listed x k at m → us ≡ held (leads x k 0) →
       vs ≡ rounds k at m us → vs ≡ happens x ws
   happens-by {k} {m} {at} l e h list swept closing =
-      rw (closing, swept, e) (filled x at m (omega arith) (rw e at list) ∙ sym (happens-part l (omega arith)))
+      rw (closing, swept, e) (rounds-part x at m (omega arith) (rw e at list) ∙ sym (happens-part l (omega arith)))
 
   pub happens-other : (length ws ≡ partWords → ⊥) → happens x ws ≡ ws
   unfolding happens
@@ -149,3 +152,20 @@ module _ (x ws : List ℕ) where
   pub happens-many : maxActions < size x → happens x ws ≡ ws
   unfolding happens
   happens-many h = rw (lt-leb (size x) maxActions h, and-false)
+
+  -- a section in line is filled at once
+  lined-fits : lined x ws ≡ true → (eqb (length ws) partWords && leb (size x) maxActions) ≡ true
+  unfolding lined
+  lined-fits h =
+      let (rest, _) = and-eq-true-iff (eqb (length ws) partWords && leb (size x) maxActions && not (any (size x) (unfit x))) (not (any (size x) (late x))) .0 h in
+      and-eq-true-iff (eqb (length ws) partWords && leb (size x) maxActions) (not (any (size x) (unfit x))) .0 rest .0
+
+  module _ {t : Bool} {us : List ℕ} (told : t ≡ lined x ws) (e : us ≡ filled x ws) where
+    pub happens-lined : t ≡ true → us ≡ happens x ws
+    unfolding filled happens
+    happens-lined h = e ∙ rw (sym told ∙ h, lined-fits (sym told ∙ h))
+
+    -- and the words of another stay
+    pub other-kept : t ≡ false → us ≡ ws
+    unfolding filled
+    other-kept h = e ∙ rw (sym told ∙ h)

@@ -7,20 +7,17 @@ use mathlib.Core.List.{List}
 use mathlib.Core.Bool.{Bool, true, false, cond, _&&_, _||_, or-false, or-assoc, and-assoc, and-false}
 use lib.Dec.{eqb, ltb}
 use borrow.Author.Tests.{eq-eqb, ne-eqb}
-use Rattle.model.specs.Limits.{rowWords, partWords}
+use Rattle.model.specs.Limits.{maxActions, rowWords, partWords}
 use Rattle.model.specs.Search.{any}
 use Rattle.model.specs.Layout.{kind}
 use Rattle.model.specs.Relations.{sw}
-use Rattle.model.proofs.Words.{rows-same}
 use Rattle.rows.specs.Steps.{marked}
 use Rattle.rows.proofs.Marked.{marked-rows}
 use Rattle.hb.specs.Listing.{receives, entry, Listed}
-use Rattle.hb.specs.Passing.{held}
+use Rattle.lined.specs.Passing.{held}
+use Rattle.lined.proofs.Passing.{table-same}
 use Rattle.hb.specs.Edges.{from}
 use Rattle.hb.proofs.Laws.{sw-received}
-
-pub held-same : (p q : ℕ → ℕ → Bool) → ((c d : ℕ) → p c d ≡ q c d) → held p ≡ held q
-held-same p q f = rows-same rowWords partWords p q (omega arith) (λ a b k l. f a b)
 
 module _ (x at : List ℕ) where
   -- c synchronizes with d, where these are a and an entry of the list
@@ -53,7 +50,7 @@ module _ (x at : List ℕ) where
 
   from-rows : (a m : ℕ) (p : ℕ → ℕ → Bool) → from x at a m (held p) ≡ held (λ c d. p c d || any m (to-entry a c d))
   unfolding from any
-  from-rows a zero p = held-same p (λ c d. p c d || false) (λ c d. sym (or-false (p c d)))
+  from-rows a zero p = table-same maxActions p (λ c d. p c d || false) (λ c d. sym (or-false (p c d)))
   from-rows a (suc j) p = step (sw x a (entry at j)) refl (from-rows a j p)
     where
       so-far : ℕ → ℕ → Bool
@@ -64,9 +61,9 @@ module _ (x at : List ℕ) where
       step true e h =
           ap (λ (ws : List ℕ). marked rowWords ws a (entry at j)) h
           ∙ marked-rows rowWords partWords so-far a (entry at j) (omega arith)
-          ∙ held-same _ _ (λ c d. or-assoc (p c d) (any j (to-entry a c d)) _ ∙ rw (more-edge a j p e c d))
+          ∙ table-same maxActions _ _ (λ c d. or-assoc (p c d) (any j (to-entry a c d)) _ ∙ rw (more-edge a j p e c d))
       step false e h =
-          h ∙ held-same _ _ (λ c d. rw (← more-kept a j p e c d, or-false))
+          h ∙ table-same maxActions _ _ (λ c d. rw (← more-kept a j p e c d, or-false))
 
 -- tests of which one part alone differs from position to position
 any-part : (m : ℕ) (s : Bool) (q : ℕ → Bool) (t : Bool) → any m (λ j. s && (q j && t)) ≡ s && (any m q && t)
@@ -85,7 +82,7 @@ any-part (suc m) s q t = rw (any-part m s q t) (join s (any m q) (q m) t)
 pub from-listed :
     (x : List ℕ) (n : ℕ) (at : List ℕ) (m : ℕ) → Listed x n at m → (a : ℕ) (p : ℕ → ℕ → Bool) →
     from x at a m (held p) ≡ held (λ c d. p c d || eqb c a && (ltb d n && sw x a d))
-from-listed x n at m list a p = from-rows x at a m p ∙ held-same _ _ (λ c d. ap (λ (t : Bool). p c d || t) (whole c d))
+from-listed x n at m list a p = from-rows x at a m p ∙ table-same maxActions _ _ (λ c d. ap (λ (t : Bool). p c d || t) (whole c d))
   where
     own : (c d : ℕ) → eqb c a && (ltb d n && sw x c d) ≡ eqb c a && (ltb d n && sw x a d)
     own c d =

@@ -11,24 +11,17 @@ use borrow.Author.Tests.{lt-ltb, le-ltb, le-leb, lt-leb, eq-eqb, ne-eqb}
 use Rattle.model.specs.Limits.{maxActions, rowWords, partWords}
 use Rattle.model.specs.Layout.{thread}
 use Rattle.model.specs.Relations.{po, sw}
-use Rattle.model.specs.WorkArea.{rows}
-use Rattle.model.proofs.Words.{rows-same}
 use Rattle.rows.specs.Steps.{marked, joined}
 use Rattle.rows.proofs.Cleared.{cleared-rows}
 use Rattle.rows.proofs.Marked.{marked-rows}
 use Rattle.rows.proofs.Steps.{joined-rows}
 use Rattle.hb.specs.Listing.{Listed}
-use Rattle.hb.specs.Passing.{held, hands, passed, leads}
+use Rattle.lined.specs.Passing.{held}
+use Rattle.lined.proofs.Passing.{table, table-same}
+use Rattle.hb.specs.Passing.{hands, passed, leads}
 use Rattle.hb.specs.Edges.{from}
 use Rattle.hb.proofs.Hands.{hands-none, hands-more}
-use Rattle.hb.proofs.Marked.{held-same, from-listed}
-
--- the words of a row for each of 256 threads
-abbrev pub threads : (ℕ → ℕ → Bool) → List ℕ
-threads q = rows rowWords (rowWords * 256) q
-
-threads-same : (p q : ℕ → ℕ → Bool) → ((c d : ℕ) → p c d ≡ q c d) → threads p ≡ threads q
-threads-same p q f = rows-same rowWords (rowWords * 256) p q (omega arith) (λ a b k l. f a b)
+use Rattle.hb.proofs.Marked.{from-listed}
 
 module _ (x : List ℕ) (n : ℕ) where
   -- nothing is passed
@@ -41,12 +34,12 @@ module _ (x : List ℕ) (n : ℕ) where
 
   pub sweep-none : {k : ℕ} → k ≡ partWords → replicate k 0 ≡ held (leads x n n)
   sweep-none e =
-      rw e (cleared-rows rowWords partWords (omega arith) ∙ held-same (λ c d. false) (leads x n n) (λ c d. rw (beyond c)))
+      rw e (cleared-rows rowWords partWords (omega arith) ∙ table-same maxActions (λ c d. false) (leads x n n) (λ c d. rw (beyond c)))
 
-  pub later-none : replicate (rowWords * 256) 0 ≡ threads (passed x n n)
+  pub later-none : replicate (rowWords * 256) 0 ≡ table 256 (passed x n n)
   later-none =
       cleared-rows rowWords (rowWords * 256) (omega arith)
-      ∙ threads-same (λ c d. false) (passed x n n) (λ t d. rw (hands-none x n t d) (turned (leb n d) (ltb d n) (eqb t (thread x d)) (beyond d)))
+      ∙ table-same 256 (λ c d. false) (passed x n n) (λ t d. rw (hands-none x n t d) (turned (leb n d) (ltb d n) (eqb t (thread x d)) (beyond d)))
     where
       turned : (p q r : Bool) → p && q ≡ false → false ≡ q && (p && r || false)
       turned true true r e = absurd (true≢false e)
@@ -122,18 +115,18 @@ module _ (x : List ℕ) (n : ℕ) where
         joined-up true false true w = refl
         joined-up true false false w = or-false w
 
-    module _ (later : List ℕ) (table : later ≡ threads (passed x n s)) (byte : t < 256) (few : n ≤ maxActions) where
+    module _ (later : List ℕ) (by-thread : later ≡ table 256 (passed x n s)) (byte : t < 256) (few : n ≤ maxActions) where
       pub sweep-more :
           {at : List ℕ} {m : ℕ} → Listed x n at m → {part us vs : List ℕ} → part ≡ held (leads x n s) → us ≡ joined rowWords part a later t → vs ≡ from x at a m us →
           vs ≡ held (leads x n a)
       sweep-more {at} {m} list h j f =
-          rw (f, j, h, table)
+          rw (f, j, h, by-thread)
           (ap (from x at a m) (joined-rows rowWords partWords (leads x n s) a (rowWords * 256) (passed x n s) t (omega arith) (omega arith) (omega arith))
-          ∙ from-listed x n at m list a _ ∙ held-same _ (leads x n a) row)
+          ∙ from-listed x n at m list a _ ∙ table-same maxActions _ (leads x n a) row)
 
       pub later-more :
-          {part us : List ℕ} → part ≡ held (leads x n a) → us ≡ joined rowWords later t part a → marked rowWords us t a ≡ threads (passed x n a)
+          {part us : List ℕ} → part ≡ held (leads x n a) → us ≡ joined rowWords later t part a → marked rowWords us t a ≡ table 256 (passed x n a)
       later-more h j =
-          rw (j, table, h)
+          rw (j, by-thread, h)
           (ap (λ (ws : List ℕ). marked rowWords ws t a) (joined-rows rowWords (rowWords * 256) (passed x n s) t partWords (leads x n a) a (omega arith) (omega arith) (omega arith))
-          ∙ marked-rows rowWords (rowWords * 256) _ t a (omega arith) ∙ threads-same _ (passed x n a) column)
+          ∙ marked-rows rowWords (rowWords * 256) _ t a (omega arith) ∙ table-same 256 _ (passed x n a) column)

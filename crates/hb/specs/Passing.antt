@@ -3,15 +3,9 @@ use Prim.Native.Nat.{ℕ}
 use mathlib.Core.List.{List}
 use mathlib.Core.Bool.{Bool, _&&_, _||_}
 use lib.Dec.{eqb, ltb, leb}
-use Rattle.model.specs.Limits.{rowWords, partWords}
 use Rattle.model.specs.Search.{any}
 use Rattle.model.specs.Layout.{thread}
 use Rattle.model.specs.Relations.{po, sw}
-use Rattle.model.specs.WorkArea.{rows}
-
--- the words of a part that holds the relation p
-abbrev pub held : (ℕ → ℕ → Bool) → List ℕ
-held p = rows rowWords partWords p
 
 -- a passed action of thread t synchronizes with b
 unfoldable pub hands : List ℕ → ℕ → ℕ → ℕ → ℕ → Bool

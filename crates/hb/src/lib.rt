@@ -5,7 +5,8 @@ ghost use lib.ListN.{length};
 ghost use Rattle.model.specs.Limits.{maxActions, partWords};
 ghost use Rattle.model.specs.Relations.{po, sw};
 ghost use Rattle.hb.specs.Edges.{wanted, meets, from, rounds, happens};
-ghost use Rattle.hb.specs.Passing.{held, leads};
+ghost use Rattle.lined.specs.Passing.{held};
+ghost use Rattle.hb.specs.Passing.{leads};
 ghost use Rattle.hb.specs.Listing.{receives, Listed};
 use fields::kind;
 use fields::place;
@@ -180,6 +181,9 @@ fn close(part: &mut [u64], n: u16, at: &[u16; ACTIONS], m: u16)
 pub fn fill(x: &[u8], part: &mut [u64])
     ensures { λ r. ⌜ now (part .exit) ≡ happens (now (x .entry)) (now (part .entry)) ⌝ }
 {
+    if lined::lined(x, part) {
+        return;
+    }
     if part.len() != PART {
         return;
     }

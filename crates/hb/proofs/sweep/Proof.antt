@@ -6,13 +6,15 @@ use lib.ListN.{length}
 use borrow.Author.Needs.{needs}
 use Rattle.model.proofs.Words.{length-rows}
 use Rattle.rows.proofs.Steps.{length-joined}
-use Rattle.hb.specs.Passing.{held, leads, passed}
-use Rattle.hb.proofs.Passing.{threads, sweep-none, later-none, sweep-more, later-more}
+use Rattle.lined.specs.Passing.{held}
+use Rattle.lined.proofs.Passing.{table}
+use Rattle.hb.specs.Passing.{leads, passed}
+use Rattle.hb.proofs.Passing.{sweep-none, later-none, sweep-more, later-more}
 use Rattle.hb.proofs.sweep.Statement.{statement}
 use Rattle.hb.proofs.sweep.Tie as tie
 
 abbrev Inv-loop : tie.InvT-loop
-Inv-loop x part₀ n at m later₀ a₀ part later a = (a ≤ n) × (part ≡ held (leads x n a)) × (later ≡ threads (passed x n a))
+Inv-loop x part₀ n at m later₀ a₀ part later a = (a ≤ n) × (part ≡ held (leads x n a)) × (later ≡ table 256 (passed x n a))
 
 abbrev μ-loop : tie.MeasureT-loop
 μ-loop x part₀ n at m later₀ a₀ part later a = a
@@ -41,15 +43,15 @@ loop-again c =
     let join = edges .before .before .before .before in
     let named = join .before .before .before in
     let at = named .before .before in
-    let (l, h, table) = at .loop .inv in
+    let (l, h, by-thread) = at .loop .inv in
     let start = at .before .before .before .before .before .before .before in
     let x = start .args .x .now in
     let own = named .thread .ensures in
     let step : at .loop .a ≡ at .loop .a - 1 + 1 = omega arith in
-    let swept = sweep-more x _ (at .loop .a) (at .loop .a - 1) step (omega arith) own _ table (omega arith) (omega arith) (start .pre .1 .1) h (join .join .ensures) (edges .edges-from .ensures) in (
+    let swept = sweep-more x _ (at .loop .a) (at .loop .a - 1) step (omega arith) own _ by-thread (omega arith) (omega arith) (start .pre .1 .1) h (join .join .ensures) (edges .edges-from .ensures) in (
       omega arith,
       swept,
-      c .before .set .ensures ∙ later-more x _ (at .loop .a) (at .loop .a - 1) step (omega arith) own _ table (omega arith) (omega arith) swept (join2 .join2 .ensures),
+      c .before .set .ensures ∙ later-more x _ (at .loop .a) (at .loop .a - 1) step (omega arith) own _ by-thread (omega arith) (omega arith) swept (join2 .join2 .ensures),
     )
 
 same-length : tie.Need-same-length Inv-loop μ-loop

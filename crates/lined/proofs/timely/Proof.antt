@@ -36,7 +36,7 @@ returns c =
     let fit = at .before .before .pre in
     let o = gives .gives .ensures in
     let k = kind .kind .ensures in
-    let high = gives .before .if1 .taken in
+    let high : 7 ≤ kind .kind .result = omega (arith, gives .before .if1 .taken) in
     refused _ _ _ (omega arith)
     (late-seen _ _ (at .loop .seen) (at .loop .inv .3) k high o (gives-beyond _ _ fit _ o k high (omega arith)) (gives-inside _ _ fit _ o (omega arith)) (c .if2 .taken))
 
@@ -56,7 +56,7 @@ loop-again c =
     (λ w.
     let o = w .1 .ensures in
     let i = w .3 .ensures in
-    let high = w .0 .taken in (
+    let high : 7 ≤ c .before .kind .result = omega (arith, w .0 .taken) in (
       omega arith,
       rw (w .4) (simp length-set len),
       any-pass _ _ so-far (timely-seen _ _ (at .loop .seen) marks k high o (gives-beyond _ _ fit _ o k high (omega arith)) (gives-inside _ _ fit _ o (omega arith)) (w .2 .left)),

@@ -7,11 +7,11 @@ use mathlib.Core.Path.{_≡_, refl, sym, ap, ap₂, _∙_}
 use mathlib.Core.Logic.{⊎-elim}
 use mathlib.Core.Bool.{Bool, true, false}
 use lib.Dec.{eqb, ltb}
-use borrow.Author.Tests.{eq-eqb, ne-eqb, eqb-true, eqb-false, ltb-true}
+use borrow.Author.Tests.{eq-eqb, ne-eqb, eqb-true, eqb-false, ltb-true, lt-ltb}
 use Rattle.model.specs.declared.Answer.{Answer}
 use Rattle.model.specs.Search.{any, first, found, none}
 use Rattle.model.specs.Answers.{answer, pass, when, naming, rule, rule₂, upTo, _then_}
-use Rattle.model.proofs.Search.{found-none, found-at, found-same, any-same, any-at}
+use Rattle.model.proofs.Search.{found-none, found-at, found-same, any-same, any-at, any-first}
 
 found-below : (p : ℕ → Bool) (n : ℕ) → (found n p ≡ none → ⊥) → found n p < n
 unfolding found
@@ -58,6 +58,21 @@ module _ (f : ℕ → Answer) where
       ⊎-elim (λ (q : a ≡ n). rw (← q, h))
       (λ (q : a < n). rw (upTo-at n a q h e) (then-ends (f a) (f n) e))
       (eq-or-lt-of-le (let z : a ≤ n = omega arith in z))
+
+-- code that returns at the first number other than 0, and goes on at 0: r is what it got for the check p
+module _ {r p : Answer} (e : r ≡ p) where
+  pub ends : (q : Answer) → (r .n ≡ 0 → ⊥) → r ≡ p then q
+  ends q h = e ∙ sym (then-ends p q (rw e at h))
+
+  pub goes-on : {a q : Answer} → r .n ≡ 0 → a ≡ q → a ≡ p then q
+  goes-on {a} {q} h f = f ∙ sym (then-next p q (rw e at h))
+
+-- what names the first position found is the rule's answer
+pub named : (N s n : ℕ) (p : ℕ → Bool) {a : ℕ} {r : Answer} → a ≡ found n p → r ≡ naming N s a none → r ≡ rule N s n p
+unfolding rule
+named N s n p h e = e ∙ rw h
+
+pub ruleset chains = (ends, goes-on, named)
 
 -- checks that agree below n
 pub upTo-same : (f g : ℕ → Answer) (n : ℕ) → ((a : ℕ) → a < n → f a ≡ g a) → upTo n f ≡ upTo n g
@@ -170,3 +185,26 @@ upTo-each f (suc n) h a l =
 pub when-not : (b : Bool) (N s : ℕ) → 0 < N → when b (answer N s none none) .n ≡ 0 → b ≡ false
 when-not true N s l h = absurd (let z : ⊥ = omega arith in z)
 when-not false N s l h = refl
+
+-- a search that gives 0 found nothing
+naming-nowhere : (N s n : ℕ) (p : ℕ → Bool) (b : ℕ) → 0 < N → n ≤ none → naming N s (found n p) b .n ≡ 0 → any n p ≡ false
+unfolding found
+naming-nowhere N s n p b pos fits h = go (any n p) refl
+  where
+    go : (t : Bool) → any n p ≡ t → any n p ≡ false
+    go false e = e
+    go true e =
+        let l = any-first p n e in
+        let at : found n p ≡ first n p = rw (lt-ltb (first n p) n l) in
+        let given : naming N s (first n p) b ≡ answer N s (first n p) b = naming-at N s (first n p) b (omega arith) in
+        let z : 0 ≡ N = sym h ∙ ap (λ (a : ℕ). naming N s a b .n) at ∙ ap (λ (q : Answer). q .n) given in
+        absurd (let w : ⊥ = omega arith in w)
+
+pub rule-nowhere : (N s n : ℕ) (p : ℕ → Bool) → 0 < N → n ≤ none → rule N s n p .n ≡ 0 → any n p ≡ false
+unfolding rule
+rule-nowhere N s n p pos fits h = naming-nowhere N s n p none pos fits h
+
+pub rule₂-nowhere : (N s n : ℕ) (p : ℕ → ℕ → Bool) → 0 < N → n ≤ none → rule₂ N s n p .n ≡ 0 → any n (λ x. any n (p x)) ≡ false
+unfolding rule₂
+rule₂-nowhere N s n p pos fits h =
+    naming-nowhere N s n (λ x. any n (p x)) (found n (p (found n (λ x. any n (p x))))) pos fits h

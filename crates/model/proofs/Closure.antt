@@ -11,16 +11,13 @@ use lib.Dec.{eqb, ltb}
 use Rattle.model.specs.Layout.{size}
 use Rattle.model.specs.Search.{any}
 use Rattle.model.specs.Relations.{po, sw, edge, reach, hb}
+use Rattle.model.proofs.Bools.{either, same-truth}
 use Rattle.model.proofs.Search.{any-at}
 
 -- a way of one or more edges of e
 pub data Path⁺ (e : ℕ → ℕ → Bool) : ℕ → ℕ → Type 0 where
   one : {a b : ℕ} → e a b ≡ true → Path⁺ e a b
   join : {a b c : ℕ} → Path⁺ e a c → Path⁺ e c b → Path⁺ e a b
-
-pub or-cases : (s t : Bool) → s || t ≡ true → (s ≡ true) ⊎ (t ≡ true)
-or-cases true t h = inl refl
-or-cases false t h = inr h
 
 absorbs : (s t : Bool) → s || s && t ≡ s
 absorbs true t = refl
@@ -52,7 +49,7 @@ module _ (e : ℕ → ℕ → Bool) (at : ℕ → ℕ) where
   unfolding via
   ways i a b h =
       ⊎-elim (λ s. inl s) (λ s. inr (and-eq-true-iff (via e at i a (at i)) (via e at i (at i) b) .0 s))
-      (or-cases (via e at i a b) (via e at i a (at i) && via e at i (at i) b) h)
+      (either (via e at i a b) (via e at i a (at i) && via e at i (at i) b) h)
 
   -- Warshall: a round makes the relation transitive through its position, and keeps it so through every other
   gains : (i : ℕ) → Through (via e at (suc i)) (at i)
@@ -80,7 +77,7 @@ module _ (e : ℕ → ℕ → Bool) (at : ℕ → ℕ) where
   listed zero c h = absurd (false≢true h)
   listed (suc m) c h =
       ⊎-elim (λ s. keeps m c (listed m c s)) (λ s. rw (eqb-true c (at m) s) (gains m))
-      (or-cases (any m (λ i. eqb c (at i))) (eqb c (at m)) h)
+      (either (any m (λ i. eqb c (at i))) (eqb c (at m)) h)
 
   sound : (m a b : ℕ) → via e at m a b ≡ true → Path⁺ e a b
   unfolding via
@@ -119,11 +116,6 @@ reach-via : (e : ℕ → ℕ → Bool) (k a b : ℕ) → reach e k a b ≡ via e
 unfolding reach via
 reach-via e zero a b = refl
 reach-via e (suc k) a b = rw (reach-via e k a b, reach-via e k a k, reach-via e k k b)
-
-same-truth : (s t : Bool) → (s ≡ true → t ≡ true) → (t ≡ true → s ≡ true) → s ≡ t
-same-truth true t f g = sym (f refl)
-same-truth false true f g = g refl
-same-truth false false f g = refl
 
 module _ (e : ℕ → ℕ → Bool) (n : ℕ) (within : (a b : ℕ) → e a b ≡ true → (a < n) × (b < n)) where
   pub reach-within : (k a b : ℕ) → reach e k a b ≡ true → (a < n) × (b < n)

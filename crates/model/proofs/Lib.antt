@@ -1,7 +1,9 @@
+pub mod Bools
 pub mod Search
 pub mod Words
 pub mod Answers
 pub mod Bench
 pub mod Serial
 pub mod Closure
+pub mod Signed
 pub mod Settles

@@ -14,7 +14,6 @@ use Rattle.model.specs.Search.{count}
 use Rattle.model.specs.Layout.{size, thread, place, sync}
 use Rattle.model.specs.Serial.{listed, next, due, turn, serial}
 use Rattle.model.proofs.Search.{any-at}
-pub mod Searches
 pub mod Pigeonhole
 pub mod Steps
 pub mod Places

@@ -18,7 +18,7 @@ use borrow.Author.Tests.{lt-ltb, le-ltb}
 use Rattle.model.specs.Limits.{maxActions, rowWords, partWords}
 use Rattle.model.specs.Layout.{size}
 use Rattle.model.specs.Relations.{hb}
-use Rattle.model.specs.WorkArea.{bits, list, rows, bit, part}
+use Rattle.model.specs.WorkArea.{shown, bits, list, rows, bit, part}
 use Rattle.model.proofs.Closure.{hb-within}
 
 -- the list of f 0 to f (n - 1)
@@ -210,8 +210,8 @@ module _ (x : List ℕ) where
   unfolding part
   words-part = words-rows rowWords partWords (hb x)
 
-  pub bit-part : size x ≤ maxActions → bit rowWords (part x) ≡ hb x
-  unfolding part
-  bit-part fits =
+  pub shown-part : size x ≤ maxActions → shown (part x) ≡ hb x
+  unfolding part shown
+  shown-part fits =
       bit-rows-all rowWords maxActions (hb x)
       (λ a b t. let (s, e) = hb-within x a b t in (omega arith, omega arith))

@@ -1,9 +1,11 @@
--- The table of the eleven kinds: the target's class, whether a variable must be volatile, synchronization, read, write.
+-- The table of the eleven kinds: the target's class, whether a variable must be volatile, synchronization, read, write; and what an action of the kind
+-- gives to later ones and takes from earlier ones, by which actions synchronize (`sw-table` of proofs/Synchronizes.antt).
 use Prim.Native.Nat.{ℕ}
 use mathlib.Core.List.{List, [], _∷_}
 use mathlib.Core.Bool.{Bool, true, false}
 use lib.ListN.{getD}
 use Rattle.model.specs.declared.Kind.{Kind}
+use Rattle.model.specs.declared.Objects.{Objects}
 
 -- the classes of targets
 abbrev pub no-kind : ℕ
@@ -24,27 +26,56 @@ zero-byte = 4
 abbrev pub any-byte : ℕ
 any-byte = 5
 
-abbrev pub row : ℕ → Bool → Bool → Bool → Bool → Kind
-row c v s r w = record { target = c; volatile = v; sync = s; read = r; write = w }
+-- the classes of objects
+abbrev pub of-variable : ℕ
+of-variable = 0
+
+abbrev pub of-monitor : ℕ
+of-monitor = 1
+
+abbrev pub of-beginning : ℕ
+of-beginning = 2
+
+abbrev pub of-end : ℕ
+of-end = 3
+
+abbrev pub nothing-given : ℕ
+nothing-given = 4
+
+abbrev pub nothing-taken : ℕ
+nothing-taken = 5
+
+-- an object of class c: the one with the action's own thread as its number, where o, else with its target; places decide where p
+abbrev pub objects : ℕ → Bool → Bool → Objects
+objects c o p = record { class = c; own = o; placed = p }
+
+abbrev pub gives-none : Objects
+gives-none = objects nothing-given true false
+
+abbrev pub takes-none : Objects
+takes-none = objects nothing-taken true false
+
+abbrev pub row : ℕ → Bool → Bool → Bool → Bool → Objects → Objects → Kind
+row c v s r w g t = record { target = c; volatile = v; sync = s; read = r; write = w; gives = g; takes = t }
 
 -- what a byte that is no kind stands for
 abbrev pub noKind : Kind
-noKind = row no-kind false false false false
+noKind = row no-kind false false false false gives-none takes-none
 
 abbrev pub kinds : List Kind
 kinds =
     noKind
-    ∷ row variable false false true false
-    ∷ row variable false false false true
-    ∷ row variable true true true false
-    ∷ row variable true true false true
-    ∷ row monitor false true false false
-    ∷ row monitor false true false false
-    ∷ row thread false true false false
-    ∷ row zero-byte false true false false
-    ∷ row zero-byte false true false false
-    ∷ row thread false true false false
-    ∷ row any-byte false false false false
+    ∷ row variable false false true false gives-none takes-none
+    ∷ row variable false false false true gives-none takes-none
+    ∷ row variable true true true false gives-none (objects of-variable false true)
+    ∷ row variable true true false true (objects of-variable false true) takes-none
+    ∷ row monitor false true false false gives-none (objects of-monitor false true)
+    ∷ row monitor false true false false (objects of-monitor false true) takes-none
+    ∷ row thread false true false false (objects of-beginning false false) takes-none
+    ∷ row zero-byte false true false false gives-none (objects of-beginning true false)
+    ∷ row zero-byte false true false false (objects of-end true false) takes-none
+    ∷ row thread false true false false gives-none (objects of-end false false)
+    ∷ row any-byte false false false false gives-none takes-none
     ∷ []
 
 unfoldable pub kindRow : ℕ → Kind

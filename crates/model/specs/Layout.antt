@@ -8,6 +8,8 @@ use lib.IntN.{ℤ, pos, negsuc}
 use mir.Syntax.{w64}
 use mir.Val.{toZ}
 use Rattle.model.specs.declared.Kind.{Kind}
+use Rattle.model.specs.declared.Header.{Header}
+use Rattle.model.specs.declared.Action.{Action}
 use Rattle.model.specs.Kinds.{kindRow}
 
 abbrev pub byte : List ℕ → ℕ → ℕ
@@ -40,8 +42,17 @@ monitors r = byte r 7
 abbrev pub K : List ℕ → ℕ
 K r = byte r 8
 
-abbrev pub volatile : List ℕ → ℕ → Bool
-volatile r v = eqb (byte r (9 + v / 8) / 2 ^ (v % 8) % 2) 1
+-- the map as one number: bit v is bit v mod 8 of byte 9 + v div 8 (`map-bit` of proofs/Map.antt)
+abbrev pub map : List ℕ → ℕ
+map r = eight r 9
+
+abbrev pub header : List ℕ → Header
+header r =
+    record { threads = threads r; variables = variables r; monitors = monitors r; justifying = K r; map = map r }
+
+-- variable v is volatile
+abbrev pub volatile : Header → ℕ → Bool
+volatile h v = eqb (h .map / 2 ^ v % 2) 1
 
 -- Sections. The count of actions at byte p, the byte past the section at p, the first byte of section s, and section s as its own part
 abbrev pub past : List ℕ → ℕ → ℕ
@@ -90,6 +101,19 @@ sameℤ (pos m) (pos n) = eqb m n
 sameℤ (pos m) (negsuc n) = false
 sameℤ (negsuc m) (pos n) = false
 sameℤ (negsuc m) (negsuc n) = eqb m n
+
+abbrev pub action : List ℕ → ℕ → Action
+action x a =
+    record {
+      ident = ident x a;
+      thread = thread x a;
+      kind = kind x a;
+      target = target x a;
+      commit = commit x a;
+      place = place x a;
+      seen = seen x a;
+      value = value x a;
+    }
 
 -- What the table of kinds says of it
 abbrev pub row : List ℕ → ℕ → Kind

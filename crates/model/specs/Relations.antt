@@ -1,9 +1,10 @@
 -- Relations on the positions of a section x: program order, synchronizes-with, happens-before, races.
 use Prim.Native.Nat.{ℕ, zero, suc}
 use mathlib.Core.List.{List}
-use mathlib.Core.Bool.{Bool, not, _&&_, _||_}
+use mathlib.Core.Bool.{Bool, not, cond, _&&_, _||_}
 use lib.Dec.{eqb, ltb}
-use Rattle.model.specs.Layout.{size, thread, kind, target, place, write}
+use Rattle.model.specs.declared.Objects.{Objects}
+use Rattle.model.specs.Layout.{size, thread, kind, target, place, row, write}
 
 -- two actions of one thread, in section order
 unfoldable pub po : List ℕ → ℕ → ℕ → Bool
@@ -16,6 +17,18 @@ sw x a b =
     || eqb (kind x a) 4 && eqb (kind x b) 3 && eqb (target x a) (target x b) && ltb (place x a) (place x b)
     || eqb (kind x a) 7 && eqb (kind x b) 8 && eqb (target x a) (thread x b)
     || eqb (kind x a) 9 && eqb (kind x b) 10 && eqb (thread x a) (target x b)
+
+-- The same by the table of kinds (`sw-table` of proofs/Synchronizes.antt): a gives what b takes, and where places decide b's is larger
+abbrev pub number : Objects → List ℕ → ℕ → ℕ
+number o x a = cond (o .own) (thread x a) (target x a)
+
+unfoldable pub hands : List ℕ → ℕ → ℕ → Bool
+hands x a b =
+    let g = row x a .gives in
+    let t = row x b .takes in eqb (g .class) (t .class) && eqb (number g x a) (number t x b)
+
+unfoldable pub tabled-sw : List ℕ → ℕ → ℕ → Bool
+tabled-sw x a b = hands x a b && (not (row x a .gives .placed) || ltb (place x a) (place x b))
 
 -- an edge between two of the first n positions
 unfoldable pub edge : List ℕ → ℕ → ℕ → Bool

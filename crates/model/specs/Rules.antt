@@ -45,18 +45,25 @@ least x p a = p a && not (any (size x) (λ b. p b && ltb (place x b) (place x a)
 unfoldable pub first-of : List ℕ → ℕ → ℕ
 first-of x t = first (size x) (λ b. eqb (thread x b) t)
 
--- a start: of the own thread; of one already started; of one that has actions and whose first isn't kind 8 with a larger place
+-- a's target "has actions and" its "first isn't kind 8 with a larger place"
+unfoldable pub begun : List ℕ → ℕ → Bool
+begun x a =
+    let b = first-of x (target x a) in ltb b (size x) && not (eqb (kind x b) 8 && ltb (place x a) (place x b))
+
+-- a start: of the own thread; of one already started; of one that has begun
 unfoldable pub misstarted : List ℕ → ℕ → Bool
 misstarted x a =
     eqb (target x a) (thread x a)
     || any a (λ b. eqb (kind x b) 7 && eqb (target x b) (target x a))
-    || ltb (first-of x (target x a)) (size x)
-    && not (eqb (kind x (first-of x (target x a))) 8 && ltb (place x a) (place x (first-of x (target x a))))
+    || begun x a
+
+-- b is an action of a's target at a smaller place
+unfoldable pub ended : List ℕ → ℕ → ℕ → Bool
+ended x a b = eqb (thread x b) (target x a) && ltb (place x b) (place x a)
 
 -- "a join without a kind 9 action of its target at a smaller place"
 unfoldable pub misjoined : List ℕ → ℕ → Bool
-misjoined x a =
-    not (any (size x) (λ b. eqb (kind x b) 9 && eqb (thread x b) (target x a) && ltb (place x b) (place x a)))
+misjoined x a = not (any (size x) (λ b. eqb (kind x b) 9 && ended x a b))
 
 unfoldable pub broken14 : List ℕ → ℕ → Bool
 broken14 x a =
@@ -69,9 +76,13 @@ broken14 x a =
 unfoldable pub rival : List ℕ → ℕ → ℕ → Bool
 rival x a b = write x b && eqb (target x b) (target x a)
 
+-- the action of x with identifier d; x's size where there is none
+unfoldable pub twin : List ℕ → ℕ → ℕ
+twin x d = first (size x) (λ a. eqb (ident x a) d)
+
 -- the action of the write that a sees; the section's size where it is the initial write
-unfoldable pub seen-at : List ℕ → ℕ → ℕ
-seen-at x a = first (size x) (λ b. eqb (ident x b) (seen x a))
+abbrev pub seen-at : List ℕ → ℕ → ℕ
+seen-at x a = twin x (seen x a)
 
 -- "a read's seen write isn't a write to its variable in the section"
 unfoldable pub broken15 : List ℕ → ℕ → Bool
@@ -87,13 +98,14 @@ seen-value x a = cond (eqb (seen x a) 0) (pos 0) (value x (seen-at x a))
 unfoldable pub broken16 : List ℕ → ℕ → Bool
 broken16 x a = read x a && not (sameℤ (value x a) (seen-value x a))
 
+-- b is a write to a's variable at a smaller place
+unfoldable pub earlier : List ℕ → ℕ → ℕ → Bool
+earlier x a b = rival x a b && ltb (place x b) (place x a)
+
 -- the write to a's variable of largest place below a's; the section's size where it is the initial write
 unfoldable pub latest : List ℕ → ℕ → ℕ
 latest x a =
-    first (size x) (λ b. earlier b && not (any (size x) (λ c. earlier c && ltb (place x b) (place x c))))
-  where
-    earlier : ℕ → Bool
-    earlier b = rival x a b && ltb (place x b) (place x a)
+    first (size x) (λ b. earlier x a b && not (any (size x) (λ c. earlier x a c && ltb (place x b) (place x c))))
 
 -- the identifier of the write at b; 0 for the initial write
 unfoldable pub write-ident : List ℕ → ℕ → ℕ

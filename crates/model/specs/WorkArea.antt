@@ -26,6 +26,10 @@ rows W n p = list n (λ w. bits 64 (λ j. p (w / W) (64 * (w % W) + j)))
 unfoldable pub bit : ℕ → List ℕ → ℕ → ℕ → Bool
 bit W ws a b = ltb b (64 * W) && eqb (getD ws (W * a + b / 64) 0 / 2 ^ (b % 64) % 2) 1
 
+-- happens-before as the words of a part show it: whether a hb b
+unfoldable pub shown : List ℕ → ℕ → ℕ → Bool
+shown ws a b = bit rowWords ws a b
+
 -- the words of a section's part: row a, bit b for a hb b
 unfoldable pub part : List ℕ → List ℕ
 part x = rows rowWords partWords (hb x)

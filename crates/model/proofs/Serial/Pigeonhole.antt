@@ -9,7 +9,7 @@ use lib.Dec.{eqb}
 use borrow.Author.Tests.{eqb-true, eq-eqb, ne-eqb}
 use Rattle.model.specs.Search.{any, first, count}
 use Rattle.model.proofs.Search.{count-same, any-not}
-use Rattle.model.proofs.Serial.Searches.{first-is, any-first}
+use Rattle.model.proofs.Search.{first-is, any-first}
 
 -- every position counts, or none does
 pub count-all : (n : ℕ) → count n (λ a. true) ≡ n

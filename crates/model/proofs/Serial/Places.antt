@@ -12,6 +12,7 @@ use borrow.Author.Tests.{ltb-false, eqb-false, eq-eqb}
 use Rattle.model.specs.Search.{any, count}
 use Rattle.model.specs.Layout.{size, thread, place, sync}
 use Rattle.model.specs.Rules.{broken11, broken12}
+use Rattle.model.proofs.Bools.{neither}
 use Rattle.model.proofs.Search.{any-not}
 use Rattle.model.proofs.Serial.Pigeonhole.{Into, Image, image}
 
@@ -21,10 +22,6 @@ pub record Placed (x : List ℕ) : Type 0 where
   pub places : (a : ℕ) → a < size x → sync x a ≡ true → 1 ≤ place x a
   pub rule11 : any (size x) (broken11 x) ≡ false
   pub rule12 : any (size x) (broken12 x) ≡ false
-
-neither : (a b : Bool) → a || b ≡ false → (a ≡ false) × (b ≡ false)
-neither true b e = absurd (false≢true (sym e))
-neither false b e = (refl, e)
 
 module _ (x : List ℕ) (placed : Placed x) where
   -- 11 at one action

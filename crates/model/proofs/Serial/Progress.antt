@@ -12,7 +12,7 @@ use Rattle.model.specs.Search.{any, first, count}
 use Rattle.model.specs.Layout.{size, thread, place, sync}
 use Rattle.model.specs.Serial.{listed, next, due, ready, turn, serial}
 use Rattle.model.proofs.Search.{any-at, any-not}
-use Rattle.model.proofs.Serial.Searches.{first-is, any-first}
+use Rattle.model.proofs.Search.{first-is, any-first}
 use Rattle.model.proofs.Serial.Pigeonhole.{Into, count-into, count-all}
 use Rattle.model.proofs.Serial.Places.{Placed, place-upto, place-apart, place-grows, place-at}
 use Rattle.model.proofs.Serial.Steps.{listed-more, listed-none, due-more, due-from, next-thread, next-unlisted, next-upto, one-more, length-serial}

@@ -15,7 +15,7 @@ use Rattle.model.specs.Search.{any, first, count}
 use Rattle.model.specs.Layout.{size, thread, sync}
 use Rattle.model.specs.Serial.{listed, next, due, ready, turn, serial}
 use Rattle.model.proofs.Search.{any-none, any-more, any-same, count-more, count-same, count-le, first-same}
-use Rattle.model.proofs.Serial.Searches.{First, first-is, first-upto}
+use Rattle.model.proofs.Search.{First, first-is, first-upto}
 
 pub one-more : (a b : ℕ) → ltb a b || eqb b a ≡ ltb a (b + 1)
 one-more a b = go (ltb a b) refl (eqb b a) refl

@@ -127,8 +127,8 @@ named Race r lent l = []
 named Order r lent l = order-list r lent l
 
 -- the definitions give what a row of the table expects
-meets : Case → Bool
-meets c =
+as-expected : Case → Bool
+as-expected c =
     eqb (length (c .bytes)) (c .long)
     && sameAnswer (answered (c .question) (c .bytes) (c .lent) 6) (c .expected)
     && sameList (take (length (c .words)) (worked (c .question) (c .bytes) (replicate (c .lent) 1) 6)) (c .words)
@@ -136,9 +136,9 @@ meets c =
 
 all : List Case → Bool
 all [] = true
-all (c ∷ cs) = meets c && all cs
+all (c ∷ cs) = as-expected c && all cs
 
 -- every row is met, and the host's number for case 1
 unfoldable pub bench : Bool
-unfolding action four header M recordM execution F case table sameAnswer sameList answered worked named meets all
+unfolding action four header M execution F case table sameAnswer sameList answered worked named as-expected all
 bench = all table && eqb (packed (verdict recordM 2304)) 281474976645130

@@ -55,27 +55,27 @@ gives-none = objects nothing-given true false
 abbrev pub takes-none : Objects
 takes-none = objects nothing-taken true false
 
-abbrev pub row : ℕ → Bool → Bool → Bool → Bool → Objects → Objects → Kind
-row c v s r w g t = record { target = c; volatile = v; sync = s; read = r; write = w; gives = g; takes = t }
+abbrev pub a-kind : ℕ → Bool → Bool → Bool → Bool → Objects → Objects → Kind
+a-kind c v s r w g t = record { target = c; volatile = v; sync = s; read = r; write = w; gives = g; takes = t }
 
 -- what a byte that is no kind stands for
 abbrev pub noKind : Kind
-noKind = row no-kind false false false false gives-none takes-none
+noKind = a-kind no-kind false false false false gives-none takes-none
 
 abbrev pub kinds : List Kind
 kinds =
     noKind
-    ∷ row variable false false true false gives-none takes-none
-    ∷ row variable false false false true gives-none takes-none
-    ∷ row variable true true true false gives-none (objects of-variable false true)
-    ∷ row variable true true false true (objects of-variable false true) takes-none
-    ∷ row monitor false true false false gives-none (objects of-monitor false true)
-    ∷ row monitor false true false false (objects of-monitor false true) takes-none
-    ∷ row thread false true false false (objects of-beginning false false) takes-none
-    ∷ row zero-byte false true false false gives-none (objects of-beginning true false)
-    ∷ row zero-byte false true false false (objects of-end true false) takes-none
-    ∷ row thread false true false false gives-none (objects of-end false false)
-    ∷ row any-byte false false false false gives-none takes-none
+    ∷ a-kind variable false false true false gives-none takes-none
+    ∷ a-kind variable false false false true gives-none takes-none
+    ∷ a-kind variable true true true false gives-none (objects of-variable false true)
+    ∷ a-kind variable true true false true (objects of-variable false true) takes-none
+    ∷ a-kind monitor false true false false gives-none (objects of-monitor false true)
+    ∷ a-kind monitor false true false false (objects of-monitor false true) takes-none
+    ∷ a-kind thread false true false false (objects of-beginning false false) takes-none
+    ∷ a-kind zero-byte false true false false gives-none (objects of-beginning true false)
+    ∷ a-kind zero-byte false true false false (objects of-end true false) takes-none
+    ∷ a-kind thread false true false false gives-none (objects of-end false false)
+    ∷ a-kind any-byte false false false false gives-none takes-none
     ∷ []
 
 unfoldable pub kindRow : ℕ → Kind

@@ -4,4 +4,5 @@ pub mod Cleared
 pub mod Marked
 pub mod Rounds
 pub mod Steps
+pub mod Part
 pub mod Unique

@@ -13,7 +13,7 @@ use lib.Pow.{pow-lt}
 use borrow.Author.Tests.{lt-ltb, le-ltb, eq-eqb, ne-eqb}
 use Rattle.model.specs.WorkArea.{rows, bit}
 use Rattle.model.proofs.Words.{Words, bit-in, length-rows, words-rows, bit-rows, is-rows}
-use Rattle.rows.specs.Steps.{marked}
+use Rattle.rows.specs.Steps.{mark}
 use Rattle.rows.proofs.Word.{bit-set-same, bit-set-other, words-set, on-or, on-power}
 
 module _ (W : ℕ) (ws : List ℕ) (a b : ℕ) where
@@ -24,45 +24,45 @@ module _ (W : ℕ) (ws : List ℕ) (a b : ℕ) where
   abbrev more : ℕ
   more = bitOr (getD ws at 0) (2 ^ (b % 64))
 
-  pub marked-wide : 64 * W ≤ b → marked W ws a b ≡ ws
-  unfolding marked
+  pub marked-wide : 64 * W ≤ b → mark W ws a b ≡ ws
+  unfolding mark
   marked-wide h = rw (le-ltb b (64 * W) h)
 
-  pub marked-in : b < 64 * W → marked W ws a b ≡ set ws at more
-  unfolding marked
+  pub marked-in : b < 64 * W → mark W ws a b ≡ set ws at more
+  unfolding mark
   marked-in h = rw (lt-ltb b (64 * W) h)
 
-  pub marked-past : b < 64 * W → length ws ≤ at → marked W ws a b ≡ ws
+  pub marked-past : b < 64 * W → length ws ≤ at → mark W ws a b ≡ ws
   marked-past h l = rw (marked-in h, set-out)
 
-  pub length-marked : length (marked W ws a b) ≡ length ws
+  pub length-marked : length (mark W ws a b) ≡ length ws
   length-marked =
       elim (decLt b (64 * W)) [
         | yes h ↦ rw (marked-in h) (length-set ws at more)
         | no g ↦ rw (marked-wide (omega arith))
       ]
 
-  pub words-marked : Words ws → Words (marked W ws a b)
+  pub words-marked : Words ws → Words (mark W ws a b)
   words-marked small =
       elim (decLt b (64 * W)) [
         | yes h ↦ rw (marked-in h) (words-set ws at more (or-lt 64 _ _ (small at) (pow-lt {i = b % 64} {j = 64} (omega arith))) small)
         | no g ↦ rw (marked-wide (omega arith)) small
       ]
 
-  marked-same : b < 64 * W → at < length ws → bit W (marked W ws a b) a b ≡ true
+  marked-same : b < 64 * W → at < length ws → bit W (mark W ws a b) a b ≡ true
   marked-same h l =
       rw (marked-in h)
       (bit-set-same W ws a (b / 64) more (omega arith) b refl l ∙ on-or (getD ws at 0) (2 ^ (b % 64)) (b % 64)
       ∙ rw (on-power (b % 64) (b % 64), eq-eqb (b % 64) (b % 64) refl, or-true))
 
   -- another bit of the same word
-  marked-beside : b < 64 * W → at < length ws → (d : ℕ) → d / 64 ≡ b / 64 → (d ≡ b → ⊥) → bit W (marked W ws a b) a d ≡ bit W ws a d
+  marked-beside : b < 64 * W → at < length ws → (d : ℕ) → d / 64 ≡ b / 64 → (d ≡ b → ⊥) → bit W (mark W ws a b) a d ≡ bit W ws a d
   marked-beside h l d e other =
       rw (marked-in h)
       (bit-set-same W ws a (b / 64) more (omega arith) d e l ∙ on-or (getD ws at 0) (2 ^ (b % 64)) (d % 64)
       ∙ rw (on-power (b % 64) (d % 64), ne-eqb (d % 64) (b % 64) (λ q. other (omega arith)), or-false, ← e) (sym (bit-in W ws a d (omega arith))))
 
-  marked-other : (c d : ℕ) → (c ≡ a → d ≡ b → ⊥) → bit W (marked W ws a b) c d ≡ bit W ws c d
+  marked-other : (c d : ℕ) → (c ≡ a → d ≡ b → ⊥) → bit W (mark W ws a b) c d ≡ bit W ws c d
   marked-other c d other =
       elim (decLt b (64 * W)) [
         | no g ↦ rw (marked-wide (omega arith))
@@ -84,7 +84,7 @@ module _ (W : ℕ) (ws : List ℕ) (a b : ℕ) where
   -- the bits after, where (c, d) is another pair or the words have a bit for (a, b)
   pub bits-marked :
       (c d : ℕ) → (c ≡ a → d ≡ b → (b < 64 * W) × (at < length ws)) →
-      bit W (marked W ws a b) c d ≡ bit W ws c d || eqb c a && eqb d b
+      bit W (mark W ws a b) c d ≡ bit W ws c d || eqb c a && eqb d b
   bits-marked c d inside =
       elim (ℕ-discrete c a) [
         | no n ↦ rw (ne-eqb c a n) (marked-other c d (λ e q. n e) ∙ sym (or-false (bit W ws c d)))
@@ -97,9 +97,9 @@ module _ (W : ℕ) (ws : List ℕ) (a b : ℕ) where
 
 -- rows of a relation, with one pair more
 pub marked-rows :
-    (W n : ℕ) (p : ℕ → ℕ → Bool) (a b : ℕ) → 0 < W → marked W (rows W n p) a b ≡ rows W n (λ c d. p c d || eqb c a && eqb d b)
+    (W n : ℕ) (p : ℕ → ℕ → Bool) (a b : ℕ) → 0 < W → mark W (rows W n p) a b ≡ rows W n (λ c d. p c d || eqb c a && eqb d b)
 marked-rows W n p a b pos =
-    is-rows W n (λ c d. p c d || eqb c a && eqb d b) pos (marked W (rows W n p) a b)
+    is-rows W n (λ c d. p c d || eqb c a && eqb d b) pos (mark W (rows W n p) a b)
     (length-marked W (rows W n p) a b ∙ length-rows W n p)
     (words-marked W (rows W n p) a b (words-rows W n p))
     (λ c d h l. bits-marked W (rows W n p) a b c d (λ e q. rw (← e, ← q, length-rows W n p) (h, l)) ∙ rw (bit-rows W n p c d h l))

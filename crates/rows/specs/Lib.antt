@@ -1,3 +1,5 @@
--- What the steps on rows make of the words: the definitions of Steps are the promises of the public functions, the records of Rounds those of the steps of a round.
+-- What the steps on rows make of the words: those of Steps over the width, at the width of a record's rows in Part, which the public functions promise; the
+-- records of Rounds are the promises of the steps of a round.
 pub mod Steps
+pub mod Part
 pub mod Rounds

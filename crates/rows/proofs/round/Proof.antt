@@ -39,7 +39,7 @@ loop-again c =
     let at = joined .before .before .before .before .before in (
       omega arith,
       λ i. c .slice-known3 .given i .fits,
-      round-more _ _ _ (at .loop .part) (at .loop .a) _ (at .loop .inv .2) (at .before .row .ensures) (sym (bit-in _ _ _ _ (omega arith))) (joined .join-if .ensures),
+      round-more _ _ _ (at .loop .part) (at .loop .a) _ (at .loop .inv .2) (at .before .copied .ensures) (sym (bit-in _ _ _ _ (omega arith))) (joined .join-if .ensures),
     )
 
 same-length : tie.Need-same-length Inv-loop μ-loop

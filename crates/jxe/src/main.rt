@@ -2,16 +2,13 @@
 use libc::STDIN_FILENO;
 use libc::STDOUT_FILENO;
 use model::Answer;
+use model::MAX_ACTIONS;
+use model::MAX_BYTES;
+use model::MAX_WORDS;
+use model::PART_WORDS;
 
 // One byte more than the longest record, so that a longer one is seen to be too long.
-const ROOM: usize = 23076;
-
-// The words of all parts, and of one; the actions of the longest section.
-const WORDS: usize = 2304;
-
-const PART: usize = 256;
-
-const ACTIONS: usize = 128;
+const MAX_READ: usize = MAX_BYTES + 1;
 
 fn number(n: u64) {
     io::write_all(STDOUT_FILENO, b" ");
@@ -45,8 +42,8 @@ fn positions(record: &[u8], list: &[u16]) {
 }
 
 fn order(record: &[u8]) {
-    let mut work = [0u64; PART];
-    let mut list = [0u16; ACTIONS];
+    let mut work = [0u64; PART_WORDS];
+    let mut list = [0u16; MAX_ACTIONS];
     let r = jmm::order(record, &mut work, &mut list);
     answer(b"order", r);
     if r.n == 0 {
@@ -55,8 +52,8 @@ fn order(record: &[u8]) {
     io::write_all(STDOUT_FILENO, b"\n");
 }
 
-fn judge(record: &[u8]) {
-    let mut work = [0u64; WORDS];
+fn questions(record: &[u8]) {
+    let mut work = [0u64; MAX_WORDS];
     answer(b"verdict", jmm::verdict(record, &mut work));
     io::write_all(STDOUT_FILENO, b"\n");
     answer(b"race", jmm::race(record, &mut work));
@@ -65,7 +62,7 @@ fn judge(record: &[u8]) {
 }
 
 fn main() {
-    let mut record = [0u8; ROOM];
+    let mut record = [0u8; MAX_READ];
     let n = io::read_full(STDIN_FILENO, &mut record);
-    judge(&record[..n]);
+    questions(&record[..n]);
 }

@@ -15,6 +15,10 @@ static const uint32_t LENT = 1u << 4 | 1u << 8;
 
 int same_answer(struct answer x, struct answer y) { return x.n == y.n && x.s == y.s && x.a == y.a && x.b == y.b; }
 
+uint64_t packed(struct answer x) {
+    return x.n + ((uint64_t)x.s << 8) + ((uint64_t)x.a << 16) + ((uint64_t)x.b << 32);
+}
+
 void cover(struct coverage *c, enum question q, struct answer x) {
     if (x.n < NUMBERS)
         c->reached[q][x.n]++;

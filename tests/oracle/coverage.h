@@ -14,6 +14,7 @@ struct coverage {
 };
 
 int same_answer(struct answer x, struct answer y);
+uint64_t packed(struct answer x);       /* the host's one number */
 void cover(struct coverage *c, enum question q, struct answer x);
 
 /*

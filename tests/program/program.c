@@ -2,16 +2,13 @@
  * The program against right answers: program VECTORS COUNT COMMAND...
  *
  * Runs the command, which is jxe or an emulator and jxe, once for each vector and each of COUNT generated records, with
- * the record on its standard input, and compares all that it prints. A record that is too long goes in whole; the answers
- * are those to its first 23,076 bytes. With 1000 records or more, every number that the program can print must be reached.
- * The last line is `N passed, M failed`.
+ * the record on its standard input, and compares all that it prints; it must end with status 0. A record that is too long
+ * goes in whole. Every number that the program can print must be reached. The last line is `N passed, M failed`.
  */
 #define _POSIX_C_SOURCE 200809L
 
 #include "coverage.h"
-#include "generate.h"
-#include "oracle.h"
-#include "vectors.h"
+#include "records.h"
 
 #include <errno.h>
 #include <fcntl.h>
@@ -23,9 +20,12 @@
 #include <time.h>
 #include <unistd.h>
 
-enum { MOST_OUTPUT = 4096, MOST_READ = LONGEST_RECORD + 1 };
+enum { MOST_OUTPUT = 4096 };
 
 extern char **environ;
+
+static char **command;
+static struct coverage coverage;
 
 static void give_up(const char *what) {
     perror(what);
@@ -50,8 +50,8 @@ static void feed(int to, const uint8_t *rec, size_t len, int pieces) {
     }
 }
 
-/* Runs the command. The length of what it printed, with a 0 byte after it; says where it didn't end by itself. */
-static size_t run(char **command, const uint8_t *rec, size_t len, int pieces, char *output) {
+/* Runs the command. What it printed, with a 0 byte after it; says where it didn't end by itself with status 0. */
+static void run(const uint8_t *rec, size_t len, int pieces, char *output) {
     int in[2], out[2], status;
     pid_t child;
     posix_spawn_file_actions_t actions;
@@ -86,10 +86,10 @@ static size_t run(char **command, const uint8_t *rec, size_t len, int pieces, ch
     while (waitpid(child, &status, 0) < 0)
         if (errno != EINTR)
             give_up("waitpid");
-    if (!WIFEXITED(status))
-        got += (size_t)snprintf(output + got, MOST_OUTPUT - got, "(signal %d)\n", WTERMSIG(status)) % (MOST_OUTPUT - got);
     output[got] = 0;
-    return got;
+    if (status != 0)
+        snprintf(output + got, MOST_OUTPUT - got, "(%s %d)\n", WIFEXITED(status) ? "status" : "signal",
+                 WIFEXITED(status) ? WEXITSTATUS(status) : WTERMSIG(status));
 }
 
 static size_t print_answer(char *text, enum question q, struct answer x) {
@@ -110,64 +110,28 @@ static void right_lines(const struct answer x[QUESTIONS], unsigned count, const 
     *text = 0;
 }
 
-static int holds(char **command, const uint8_t *rec, size_t len, const char *right, const char *where, unsigned long number) {
-    static char output[MOST_OUTPUT];
-    run(command, rec, len, number % 64 == 0, output);
+static int holds(const struct vector *v, const char *where, unsigned long number) {
+    static char right[MOST_OUTPUT], output[MOST_OUTPUT];
+    const struct answer x[QUESTIONS] = {v->verdict, v->race, v->order};
+    for (enum question q = VERDICT; q < QUESTIONS; q++)
+        cover(&coverage, q, x[q]);
+    right_lines(x, v->count, v->list, right);
+    run(v->rec, v->len, number % 64 == 0, output);
     if (strcmp(output, right) == 0)
         return 1;
     printf("%s %lu: right is\n%sthe program printed\n%s\n", where, number, right, output);
-    print_hex(stdout, rec, len);
+    print_hex(stdout, v->rec, v->len);
     return 0;
 }
 
 int main(int argc, char **argv) {
-    static struct vector v;
-    static uint8_t rec[LONGEST_INPUT];
-    static uint64_t words[MOST_WORDS];
-    static struct coverage coverage;
-    static char right[MOST_OUTPUT];
-    unsigned long passed = 0, failed = 0, line = 0;
-    int more;
-    FILE *file = argc > 3 ? fopen(argv[1], "r") : NULL;
-    if (!file) {
+    if (argc < 4) {
         fprintf(stderr, "usage: program VECTORS COUNT COMMAND...\n");
         return 2;
     }
-    unsigned long count = strtoul(argv[2], NULL, 0);
-    char **command = argv + 3;
+    command = argv + 3;
     signal(SIGPIPE, SIG_IGN);
-    setvbuf(stdout, NULL, _IOLBF, BUFSIZ);
-    while ((more = next_vector(file, &v)) == 1) {
-        right_lines((struct answer[]){v.verdict, v.race, v.order}, v.count, v.list, right);
-        int fine = holds(command, v.rec, v.len, right, "vector", ++line);
-        passed += (unsigned)fine;
-        failed += (unsigned)!fine;
-    }
-    fclose(file);
-    if (more != 0) {
-        printf("%s: line %lu is not a vector\n", argv[1], line + 1);
-        failed++;
-    }
-    for (unsigned long seed = 1; seed <= count; seed++) {
-        uint16_t list[MOST_ACTIONS];
-        struct answer x[QUESTIONS];
-        size_t len = generate(seed, rec), read = len < MOST_READ ? len : MOST_READ;
-        x[VERDICT] = oracle_verdict(rec, read, words, MOST_WORDS);
-        x[RACE] = oracle_race(rec, read, words, MOST_WORDS);
-        x[ORDER] = oracle_order(rec, read, words, MOST_WORDS, list, MOST_ACTIONS);
-        for (enum question q = VERDICT; q < QUESTIONS; q++)
-            cover(&coverage, q, x[q]);
-        right_lines(x, read > 17 ? rec[17] : 0, list, right);
-        int fine = holds(command, rec, len, right, "seed", seed);
-        passed += (unsigned)fine;
-        failed += (unsigned)!fine;
-    }
-    printf("%lu vectors, %lu generated records\n", line, count);
-    if (count > 0) {
-        unsigned missing = print_coverage(&coverage, QUESTIONS, 0);
-        if (count >= 1000)
-            failed += missing;
-    }
-    printf("%lu passed, %lu failed\n", passed, failed);
-    return failed != 0;
+    struct tally t = test_records(argv[1], strtoul(argv[2], NULL, 0), 1, holds);
+    t.failed += print_coverage(&coverage, QUESTIONS, 0);
+    return finish(t);
 }

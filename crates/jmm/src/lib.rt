@@ -181,8 +181,8 @@ pub fn order(record: &[u8], work: &mut [u64], list: &mut [u16]) -> Answer
     judged
 }
 
-// N + 2^8 S + 2^16 A + 2^32 B.
-fn packed(r: Answer) -> u64
+// The answer as one number: N + 2^8 S + 2^16 A + 2^32 B.
+pub fn packed(r: Answer) -> u64
     ensures { λ p. ⌜ p ≡ packed r ⌝ }
 {
     r.n as u64 + 256 * r.s as u64 + 65536 * r.a as u64 + 4294967296 * r.b as u64

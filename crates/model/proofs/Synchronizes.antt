@@ -64,13 +64,14 @@ unfolding kindRow
 as-kind k =
     elim (decLt k 12) [
       | yes h ↦ (k, record { inside = h; row = refl; digit = λ d l. refl })
-      | no g ↦
-          (0,
-          record {
-            inside = omega arith;
-            row = List·getD-eq-default kinds noKind {n = k} (omega arith);
-            digit = λ d l. ne-eqb k (suc d) (λ e. omega (arith, ltb-true d 11 l)) ∙ sym (ne-eqb 0 (suc d) (λ e. omega arith));
-          })
+      | no g ↦ (
+        0,
+        record {
+          inside = omega arith;
+          row = List·getD-eq-default kinds noKind {n = k} (omega arith);
+          digit = λ d l. ne-eqb k (suc d) (λ e. omega (arith, ltb-true d 11 l)) ∙ sym (ne-eqb 0 (suc d) (λ e. omega arith));
+        },
+      )
     ]
 
 agree : (k l : ℕ) (s t u v p : Bool) → listed k l s t u p ≡ tabled (kindRow k) (kindRow l) s t u v p
@@ -95,3 +96,9 @@ sw-table x a b =
     rw numbers
     (agree (kind x a) (kind x b) (eqb (target x a) (target x b)) (eqb (target x a) (thread x b)) (eqb (thread x a) (target x b))
     (eqb (thread x a) (thread x b)) (ltb (place x a) (place x b)))
+
+-- what holds of each row of the table holds of every kind
+pub every-row : (q : Kind → Bool) → any 12 (λ k. not (q (kindRow k))) ≡ false → (k : ℕ) → q (kindRow k) ≡ true
+every-row q table k =
+    let (j, a) = as-kind k in
+    rw (a .row) (not-false (q (kindRow j)) (any-not (λ k. not (q (kindRow k))) 12 j (a .inside) table))

@@ -5,5 +5,6 @@ pub mod Answers
 pub mod Bench
 pub mod Serial
 pub mod Closure
+pub mod Synchronizes
 pub mod Signed
 pub mod Settles

@@ -1,9 +1,9 @@
--- `hb::po` meets its contract.
+-- `relations::po` meets its contract.
 use borrow.Author.Needs.{needs}
 use borrow.Author.Tests.{lt-ltb, le-ltb}
 use Rattle.model.specs.Relations.{po}
-use Rattle.hb.proofs.po.Statement.{statement}
-use Rattle.hb.proofs.po.Tie as tie
+use Rattle.relations.proofs.po.Statement.{statement}
+use Rattle.relations.proofs.po.Tie as tie
 
 returns : tie.Need-returns
 unfolding po

@@ -1,0 +1,3 @@
+-- Laws of what actions give and take.
+pub mod Objects
+pub mod Unique

@@ -1,0 +1,2 @@
+-- What actions give and take.
+pub mod Objects

@@ -87,16 +87,19 @@ pub keyed : (q : Bool) (k v : ℕ) → v < keys → eqb (cond q k keys) v ≡ q 
 keyed true k v h = refl
 keyed false k v h = ne-eqb keys v (λ e. omega arith)
 
--- an action of key v stands before a exactly when the entry is below a
-module _ (x : List ℕ) (fits : size x ≤ none) (v a : ℕ) (h : v < keys) (l : a ≤ size x) where
+-- an action of a key w stands before a exactly when the entry is below a
+module _ (x : List ℕ) (fits : size x ≤ none) {a v w : ℕ} (inside : a ≤ size x) (small : v < keys) (same : v ≡ w) where
   first-before : (key : Key) → ltb (getD (firsts x key) v 0) a ≡ any a (λ b. eqb (key-of x key b) v)
-  first-before key = rw (first-entry x key v h) (found-before (λ b. eqb (key-of x key b) v) (size x) fits a l)
+  first-before key = rw (first-entry x key v small) (found-before (λ b. eqb (key-of x key b) v) (size x) fits a inside)
 
-  pub place-before : ltb (getD (firsts x Place) v 0) a ≡ any a (λ b. sync x b && eqb (place x b) v)
-  place-before = first-before Place ∙ any-same _ _ a (λ b u. keyed (sync x b) (place x b) v h)
+  module _ {l : List ℕ} where
+    pub place-before : l ≡ firsts x Place → ltb (getD l v 0) a ≡ any a (λ b. sync x b && eqb (place x b) w)
+    place-before e =
+        rw (e, ← same) (first-before Place ∙ any-same _ _ a (λ b u. keyed (sync x b) (place x b) v small))
 
-  pub thread-before : ltb (getD (firsts x Thread) v 0) a ≡ any a (λ b. eqb (thread x b) v)
-  thread-before = first-before Thread
+    pub thread-before : l ≡ firsts x Thread → ltb (getD l v 0) a ≡ any a (λ b. eqb (thread x b) w)
+    thread-before e = rw (e, ← same) (first-before Thread)
 
-  pub start-before : ltb (getD (firsts x Start) v 0) a ≡ any a (λ b. eqb (kind x b) 7 && eqb (target x b) v)
-  start-before = first-before Start ∙ any-same _ _ a (λ b u. keyed (eqb (kind x b) 7) (target x b) v h)
+    pub start-before : l ≡ firsts x Start → ltb (getD l v 0) a ≡ any a (λ b. eqb (kind x b) 7 && eqb (target x b) w)
+    start-before e =
+        rw (e, ← same) (first-before Start ∙ any-same _ _ a (λ b u. keyed (eqb (kind x b) 7) (target x b) v small))

@@ -3,4 +3,5 @@ pub mod Listing
 pub mod Tables
 pub mod Slots
 pub mod Passed
+pub mod Limited
 pub mod Unique

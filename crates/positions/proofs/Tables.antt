@@ -88,7 +88,7 @@ keyed true k v h = refl
 keyed false k v h = ne-eqb keys v (λ e. omega arith)
 
 -- an action of a key w stands before a exactly when the entry is below a
-module _ (x : List ℕ) (fits : size x ≤ none) {a v w : ℕ} (inside : a ≤ size x) (small : v < keys) (same : v ≡ w) where
+module _ (x : List ℕ) (fits : size x ≤ none) (a : ℕ) {v w : ℕ} (same : v ≡ w) (small : v < keys) (inside : a ≤ size x) where
   first-before : (key : Key) → ltb (getD (firsts x key) v 0) a ≡ any a (λ b. eqb (key-of x key b) v)
   first-before key = rw (first-entry x key v small) (found-before (λ b. eqb (key-of x key b) v) (size x) fits a inside)
 

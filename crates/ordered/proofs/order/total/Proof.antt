@@ -1,4 +1,4 @@
--- `ordered::kinds::total` meets its contract: `passed` counts the synchronization actions before b.
+-- `ordered::order::total` meets its contract: `passed` counts the synchronization actions before b.
 use Prim.Native.Nat.{_-_, _≤_}
 use mathlib.Core.Path.{_≡_, sym}
 use mathlib.Core.Logic.{⊎-elim}
@@ -7,8 +7,8 @@ use Rattle.model.specs.Layout.{size, sync}
 use Rattle.model.specs.Search.{count}
 use Rattle.model.proofs.Search.{count-none, count-more}
 use borrow.Author.Needs.{needs}
-use Rattle.ordered.proofs.kinds.total.Statement.{statement}
-use Rattle.ordered.proofs.kinds.total.Tie as tie
+use Rattle.ordered.proofs.order.total.Statement.{statement}
+use Rattle.ordered.proofs.order.total.Tie as tie
 
 abbrev Inv-loop : tie.InvT-loop
 Inv-loop x n passed₀ b₀ passed b = (b ≤ n) × (passed ≤ b) × (passed ≡ count b (sync x))

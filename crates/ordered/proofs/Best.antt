@@ -8,8 +8,7 @@ use mathlib.Core.Bool.{Bool, true, false, not, _&&_, true≢false}
 use lib.Dec.{ltb, leb}
 use borrow.Author.Tests.{ltb-true, ltb-false, lt-ltb, le-ltb}
 use Rattle.model.specs.Search.{any, found, none}
-use Rattle.model.proofs.Search.{any-none, any-pass, any-at, any-not, found-none, found-at}
-use Rattle.ordered.proofs.Searches.{any-nowhere}
+use Rattle.model.proofs.Search.{any-none, any-pass, any-at, any-not, any-never, found-none, found-at}
 
 -- A pass over candidates by their places. It keeps the best, m, and a bound v, by which `test v i` says whether i is better; it starts at the bound `start`, and m's own is `key m`
 pub record Pass : Type 0 where
@@ -87,7 +86,7 @@ module _ (s : Pass) where
 
     module _ (i m v : ℕ) (k : Kept i m v) where
       pub kept-take : candidate i ≡ true → test v i ≡ true → Kept (i + 1) i (key i)
-      kept-take h t = inr (omega arith, h, refl, any-pass (beats i) i (any-nowhere (beats i) i below) (but (candidate i) (better i i) (λ e. alone i)), above)
+      kept-take h t = inr (omega arith, h, refl, any-pass (beats i) i (any-never (beats i) i below) (but (candidate i) (better i i) (λ e. alone i)), above)
         where
           above : (c : ℕ) → c < i → candidate c ≡ true → better i c ≡ true
           above c l e =
@@ -115,11 +114,11 @@ module _ (s : Pass) where
     -- after all n: there is no best, or m is the first
     pub searched : (n m v : ℕ) → Kept n m v → ((m ≡ no) × (any n (best n) ≡ false)) ⊎ ((m < n) × (any m (best n) ≡ false) × (best n m ≡ true))
     searched n m v k =
-        ⊎-elim (λ w. inl (w .0, any-nowhere (best n) n (λ b l. rw (any-not candidate n b l (w .2)))))
+        ⊎-elim (λ w. inl (w .0, any-never (best n) n (λ b l. rw (any-not candidate n b l (w .2)))))
         (λ w.
         inr (
           w .0,
-          any-nowhere (best n) m
+          any-never (best n) m
               (λ c l.
               but (candidate c) (not (any n (beats c)))
               (λ e. rw (any-at (beats c) n m (w .0) (rw (w .1) (w .4 c l e))))),

@@ -3,7 +3,7 @@ use Prim.Native.Nat.{ℕ, _+_, _<_, _≤_}
 use native.Mathlib.Omega.{arith}
 use native.Mathlib.Decide.{ℕ-discrete}
 use mathlib.Core.Path.{_≡_, refl, sym, ap, _∙_}
-use mathlib.Core.Bool.{Bool, true, false, _&&_, _||_}
+use mathlib.Core.Bool.{Bool, true, false, _&&_, _||_, and-false, and-comm, or-false}
 use mathlib.Core.List.{List}
 use lib.Dec.{eqb, ltb}
 use lib.ListN.{length, replicate, set, getD, getD-replicate}
@@ -12,17 +12,10 @@ use borrow.Author.Tests.{ltb-true, ltb-false, lt-ltb, le-ltb, eq-eqb, ne-eqb}
 use Rattle.model.specs.Search.{any}
 use Rattle.model.specs.Layout.{size, thread, place, sync}
 use Rattle.model.specs.Rules.{broken12}
-use Rattle.model.proofs.Search.{any-none, any-more, any-same}
-use Rattle.ordered.specs.Firsts.{keys}
+use Rattle.model.proofs.Search.{any-none, any-more, any-never, any-same}
+use Rattle.positions.specs.Firsts.{keys}
+use Rattle.positions.proofs.Tables.{keyed}
 use Rattle.ordered.specs.Threads.{Largest, Lasts, thread-key}
-use Rattle.ordered.proofs.Searches.{and-false, any-nowhere, or-false}
-use Rattle.ordered.proofs.Tables.{keyed}
-
-and-comm : (p q : Bool) → p && q ≡ q && p
-and-comm true true = refl
-and-comm true false = refl
-and-comm false true = refl
-and-comm false false = refl
 
 module _ (k f : ℕ → ℕ) where
   pub largest-none : Largest k f 0 (replicate keys 0)
@@ -53,22 +46,26 @@ module _ (k f : ℕ → ℕ) where
     pub largest-le : ((b : ℕ) → f b ≡ b) → (v : ℕ) → v < keys → getD l v 0 ≤ n
     largest-le e v h =
         ltb-false n (getD l v 0)
-        (kept .above v n h ∙ any-nowhere _ n (λ b u. rw (e b, le-ltb n b (omega arith)) (and-false (eqb (k b) v))))
+        (kept .above v n h ∙ any-never _ n (λ b u. rw (e b, le-ltb n b (omega arith)) (and-false (eqb (k b) v))))
 
-module _ (x : List ℕ) (l : List ℕ) where
+module _ (x : List ℕ) where
+  pub sync-key : (a : ℕ) → sync x a ≡ true → thread-key x a ≡ thread x a
+  sync-key a s = rw s
+
   -- 12: an earlier synchronization action of a's thread has a larger place
   pub largest-breaks :
-      (a : ℕ) → Largest (thread-key x) (place x) a l → sync x a ≡ true → {v p : ℕ} → v ≡ thread x a → p ≡ place x a → v < keys →
-      broken12 x a ≡ ltb p (getD l v 0)
+      (l : List ℕ) (a : ℕ) → Largest (thread-key x) (place x) a l → sync x a ≡ true → {v p : ℕ} → v ≡ thread x a → p ≡ place x a → v < keys →
+      ltb p (getD l v 0) ≡ broken12 x a
   unfolding broken12
-  largest-breaks a kept s {v} {p} e q h =
+  largest-breaks l a kept s {v} {p} e q h =
       rw (s, ← e, ← q)
-      (sym (kept .above v p h ∙ any-same _ _ a (λ b u. ap (λ (z : Bool). z && ltb p (place x b)) (keyed (sync x b) (thread x b) v h))))
+      (kept .above v p h ∙ any-same _ _ a (λ b u. ap (λ (z : Bool). z && ltb p (place x b)) (keyed (sync x b) (thread x b) v h)))
 
   pub no-sync : (a : ℕ) → sync x a ≡ false → broken12 x a ≡ false
   unfolding broken12
   no-sync a s = rw s
 
   -- 14: an action of a thread comes after a
-  pub last-after : Lasts x l → (a : ℕ) {v w : ℕ} → v ≡ w → v < keys → ltb a (getD l v 0) ≡ any (size x) (λ b. ltb a b && eqb (thread x b) w)
-  last-after kept a {v} e h = rw (← e) (kept .above v a h ∙ any-same _ _ (size x) (λ b u. and-comm (eqb (thread x b) v) (ltb a b)))
+  pub last-after : (l : List ℕ) → Lasts x l → (a : ℕ) {v w : ℕ} → v ≡ w → v < keys → ltb a (getD l v 0) ≡ any (size x) (λ b. ltb a b && eqb (thread x b) w)
+  last-after l kept a {v} e h =
+      rw (← e) (kept .above v a h ∙ any-same _ _ (size x) (λ b u. and-comm (eqb (thread x b) v) (ltb a b)))

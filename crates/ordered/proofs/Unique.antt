@@ -1,19 +1,7 @@
 -- No second result meets a public promise of this crate.
 use mathlib.Core.Path.{sym, _∙_}
 use Rattle.model.proofs.Settles.{Settles}
-use Rattle.ordered.proofs.firsts.firsts.Reads as firsts
-use Rattle.ordered.proofs.lists.of_kinds.Reads as of-kinds
-use Rattle.ordered.proofs.lists.listed.Reads as listed
 use Rattle.ordered.proofs.ordered.Reads as ordered
-
-pub firsts-unique : Settles firsts.Post (λ κs r s. r)
-firsts-unique κs x r q s t e f = e ∙ sym f
-
-pub of-kinds-unique : Settles of-kinds.Post (λ κs r s. r)
-of-kinds-unique κs x r q s t e f = e ∙ sym f
-
-pub listed-unique : Settles listed.Post (λ κs r s. r)
-listed-unique κs x r q s t e f = e ∙ sym f
 
 pub ordered-unique : Settles ordered.Post (λ κs r s. r)
 ordered-unique κs x r q s t e f = e ∙ sym f

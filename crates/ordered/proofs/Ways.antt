@@ -1,7 +1,7 @@
 -- What a chain of tests comes to on a way through the code: a flag f or a number m is what a call gave for the test p or the field k, and a branch says how it came out.
 use Prim.Native.Nat.{ℕ, _<_, _≤_}
 use mathlib.Core.Path.{_≡_, refl, sym, _∙_}
-use mathlib.Core.Bool.{Bool, true, false, not, _&&_, _||_}
+use mathlib.Core.Bool.{Bool, true, false, not, _&&_, _||_, or-false}
 use lib.Dec.{eqb, ltb, leb}
 use borrow.Author.Tests.{eq-eqb, ne-eqb, lt-ltb, le-ltb, le-leb, lt-leb, ltb-true, ltb-false, not-true, not-false}
 
@@ -72,10 +72,6 @@ module _ {m n : ℕ} (k l : ℕ) (e : m ≡ k) (q : n ≡ l) where
   pub not-above : leb m n ≡ not (ltb l k)
   not-above = rw (e, q) (leb-not k l)
 
-or-false : (p : Bool) → p ≡ p || false
-or-false true = refl
-or-false false = refl
-
 -- a chain that fails at its first test, that passes, or that comes to its last test
 module _ {p : Bool} where
   pub fails : (q : Bool) → false ≡ p → false ≡ p && q
@@ -100,7 +96,7 @@ module _ {p : Bool} where
   either q h = rw h
 
   pub or-first : {f q : Bool} → f ≡ p → false ≡ q → f ≡ p || q
-  or-first e h = rw (← h) (e ∙ or-false p)
+  or-first e h = rw (← h) (e ∙ sym (or-false p))
 
   pub or-last : {f q : Bool} → false ≡ p → f ≡ q → f ≡ p || q
   or-last h e = rw (← h) e

@@ -1,14 +1,13 @@
--- 12 and 14: what is kept of each thread, and what a start or a join finds wrong.
+-- 12 and 14: what is kept of each thread.
 use Prim.Native.Nat.{ℕ, _<_}
 use mathlib.Core.Path.{_≡_}
 use mathlib.Core.List.{List}
-use mathlib.Core.Bool.{Bool, not, cond, _&&_}
+use mathlib.Core.Bool.{Bool, cond, _&&_}
 use lib.Dec.{eqb, ltb}
 use lib.ListN.{getD}
 use Rattle.model.specs.Search.{any}
-use Rattle.model.specs.Layout.{size, thread, kind, target, place, sync}
-use Rattle.model.specs.Rules.{first-of}
-use Rattle.ordered.specs.Firsts.{keys}
+use Rattle.model.specs.Layout.{size, thread, kind, sync}
+use Rattle.positions.specs.Firsts.{keys}
 
 -- entry v of l is the largest f of the positions below n whose key is v: exactly what is below it is below one of those
 pub record Largest (key f : ℕ → ℕ) (n : ℕ) (l : List ℕ) : Type 0 where
@@ -22,11 +21,6 @@ thread-key x b = cond (sync x b) (thread x b) keys
 abbrev pub Lasts : List ℕ → List ℕ → Type 0
 Lasts x = Largest (thread x) (λ b. b) (size x)
 
--- the target of a "has actions and" its "first isn't kind 8 with a larger place"
-unfoldable pub begun : List ℕ → ℕ → Bool
-begun x a =
-    let b = first-of x (target x a) in ltb b (size x) && not (eqb (kind x b) 8 && ltb (place x a) (place x b))
-
--- b is an action of the thread t at a place below p
-abbrev pub ended : List ℕ → ℕ → ℕ → ℕ → Bool
-ended x t p b = eqb (thread x b) t && ltb (place x b) p
+-- b is the last action of a thread
+abbrev pub ending : List ℕ → ℕ → Bool
+ending x b = eqb (kind x b) 9

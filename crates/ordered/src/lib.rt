@@ -1,8 +1,5 @@
-// Rules 11 to 14 on one section x, which ask for no happens-before, and what they and the rules above them find once and keep. Positions are below the section's
-// count; a field past the section's end reads as 0, so every x has its answer.
-pub mod firsts;
-mod kinds;
-pub mod lists;
+// Rules 11 to 14 on one section x, which ask for no happens-before. Positions are below the section's count; a field past the section's end reads as 0, so
+// every x has its answer.
 mod monitors;
 mod order;
 mod threads;
@@ -11,12 +8,13 @@ use answers::NONE;
 use answers::naming;
 use answers::numbered;
 use model::Answer;
+use model::MAX_ACTIONS;
 ghost use mathlib.Core.Path.{_≡_};
 ghost use Prim.Native.Nat.{_≤_};
 ghost use Rattle.model.specs.Limits.{maxActions};
 ghost use Rattle.model.specs.Layout.{size};
 ghost use Rattle.model.specs.Rules.{ordered};
-ghost use Rattle.ordered.specs.Limit.{limited};
+ghost use Rattle.positions.specs.Limit.{limited};
 
 fn in_order(x: &[u8], s: u8) -> Answer
     requires { ⌜ size (now x) ≤ maxActions ⌝ }
@@ -41,7 +39,7 @@ fn in_order(x: &[u8], s: u8) -> Answer
 pub fn ordered(x: &[u8], s: u8) -> Answer
     ensures { λ r. ⌜ r ≡ limited (now (x .entry)) (ordered s (now (x .entry))) ⌝ }
 {
-    if fields::size(x) > lists::LIMIT {
+    if fields::size(x) as usize > MAX_ACTIONS {
         return numbered(0, 0);
     }
     in_order(x, s)

@@ -1,6 +1,6 @@
 -- `ordered::in_order` meets its contract.
 use Rattle.model.specs.Rules.{ordered}
-use Rattle.ordered.proofs.Chains.{chains}
+use Rattle.model.proofs.Answers.{chains}
 use borrow.Author.Needs.{needs}
 use Rattle.ordered.proofs.in_order.Statement.{statement}
 use Rattle.ordered.proofs.in_order.Tie as tie

@@ -2,7 +2,7 @@
 use Prim.Native.Nat.{ℕ, _-_, _≤_}
 use native.Mathlib.Omega.{arith}
 use mathlib.Core.Path.{_≡_, refl, sym, _∙_}
-use mathlib.Core.Bool.{Bool, true, false, _&&_, _||_}
+use mathlib.Core.Bool.{Bool, true, false, _&&_, _||_, and-false, or-true}
 use mathlib.Core.List.{List}
 use lib.Dec.{eqb, ltb}
 use lib.ListN.{getD}
@@ -10,17 +10,12 @@ use Rattle.model.specs.Search.{count}
 use Rattle.model.specs.Layout.{size, thread, kind, target, place}
 use Rattle.model.specs.Rules.{held, monitored}
 use Rattle.model.proofs.Search.{count-none, count-more, count-same}
-use Rattle.ordered.specs.Lists.{of-kinds, Listed}
-use Rattle.ordered.specs.Monitors.{counted}
-use Rattle.ordered.proofs.Listing.{count-listed, listed-fits}
-use Rattle.ordered.proofs.Searches.{and-false}
+use Rattle.positions.specs.Lists.{Listed}
+use Rattle.positions.proofs.Listing.{count-listed, listed-fits}
+use Rattle.ordered.specs.Monitors.{monitoring, counted}
 use borrow.Author.Needs.{needs}
 use Rattle.ordered.proofs.monitors.held.Statement.{statement}
 use Rattle.ordered.proofs.monitors.held.Tie as tie
-
-or-true : (b : Bool) → b || true ≡ true
-or-true true = refl
-or-true false = refl
 
 -- what counts is of a kind in the list
 of-kind : (s l p q r : Bool) → (s ≡ true → l ≡ true) → s && p && q && r ≡ l && (s && p && q && r)
@@ -30,15 +25,14 @@ of-kind false l p q r f = sym (and-false l)
 -- the locks or the unlocks before a's place
 listed-monitored :
     (x : List ℕ) (a : ℕ) (anyone : Bool) {v p t : ℕ} → v ≡ target x a → p ≡ place x a → t ≡ thread x a → {l : List ℕ} {m : ℕ} →
-    Listed (of-kinds x 5 6) (size x) l m → (k : ℕ) → ((n : ℕ) → eqb n k ≡ true → eqb n 5 || eqb n 6 ≡ true) →
+    Listed (monitoring x) (size x) l m → (k : ℕ) → ((n : ℕ) → eqb n k ≡ true → eqb n 5 || eqb n 6 ≡ true) →
     count m (λ i. counted x k v p anyone t (getD l i 0)) ≡ monitored x a (λ s. anyone || eqb s (thread x a)) k
 unfolding monitored
 listed-monitored x a anyone {v} {p} {t} e q s {l} h k f =
     rw (← e, ← q, ← s)
     (sym
-    (count-same _ _ (size x)
-    (λ b u. of-kind (eqb (kind x b) k) (of-kinds x 5 6 b) (eqb (target x b) v) (ltb (place x b) p) (anyone || eqb (thread x b) t) (f (kind x b)))
-    ∙ count-listed (of-kinds x 5 6) (counted x k v p anyone t) l h))
+    (count-same _ _ (size x) (λ b u. of-kind (eqb (kind x b) k) (monitoring x b) (eqb (target x b) v) (ltb (place x b) p) (anyone || eqb (thread x b) t) (f (kind x b)))
+    ∙ count-listed (monitoring x) (counted x k v p anyone t) l h))
 
 abbrev Inv-loop : tie.InvT-loop
 Inv-loop x list m anyone a monitor place thread locks₀ unlocks₀ j₀ locks unlocks j =
@@ -52,7 +46,7 @@ loop-holds : tie.Need-loop-holds Inv-loop μ-loop
 loop-holds c = (omega arith, omega arith, omega arith, sym (count-none _), sym (count-none _))
 
 element-copy-out-b : tie.Need-element-copy-out-b Inv-loop μ-loop
-element-copy-out-b c = omega (arith, listed-fits _ (λ b. true) _ (c .before .before .before .before .before .before .pre))
+element-copy-out-b c = omega (arith, listed-fits (c .before .before .before .before .before .before .pre))
 
 loop-again : tie.Need-loop-again Inv-loop μ-loop
 loop-again c =

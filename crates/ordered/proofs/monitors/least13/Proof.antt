@@ -2,7 +2,7 @@
 use Prim.Native.Nat.{ℕ, _+_, _-_, _≤_}
 use native.Mathlib.Omega.{arith}
 use mathlib.Core.Path.{_≡_, sym, _∙_}
-use mathlib.Core.Bool.{false, _&&_}
+use mathlib.Core.Bool.{false, _&&_, and-false}
 use mathlib.Core.List.{List}
 use mathlib.Core.Logic.{⊎-elim}
 use lib.Dec.{ltb}
@@ -10,8 +10,9 @@ use borrow.Author.Tests.{lt-ltb, le-ltb}
 use Rattle.model.specs.Search.{none}
 use Rattle.model.specs.Layout.{size, place}
 use Rattle.model.specs.Rules.{least, broken13}
-use Rattle.ordered.proofs.Searches.{and-false}
-use Rattle.ordered.proofs.Listing.{is-listed}
+use Rattle.positions.specs.Lists.{locks}
+use Rattle.positions.proofs.Sets.{are-locks}
+use Rattle.positions.proofs.Listing.{is-listed}
 use Rattle.ordered.proofs.Best.{Pass, least-pass, Kept, kept-none, kept-take, kept-keep, kept-found}
 use borrow.Author.Needs.{needs}
 use Rattle.ordered.proofs.monitors.least13.Statement.{statement}
@@ -30,7 +31,9 @@ loop-holds : tie.Need-loop-holds Inv-loop μ-loop
 loop-holds c = (omega arith, kept-none (pass (c .before .before .before .args .x .now)) none)
 
 broken13-requires : tie.Need-broken13-requires Inv-loop μ-loop
-broken13-requires c κs = rw (c .before .before .before .before .before .before .listed .ensures) (is-listed (c .before .before .before .before .before .before .before .before .before .args .x .now) 5 6 (c .before .before .before .before .before .before .before .before .before .pre))
+broken13-requires c κs =
+    let start = c .before .before .before .before .before .before .before .before .before in
+    rw (c .before .before .before .before .before .before .listed .ensures) (is-listed (start .args .x .now) locks (are-locks (start .args .x .now)) (start .pre))
 
 loop-again : tie.Need-loop-again Inv-loop μ-loop
 loop-again c = (

@@ -1,11 +1,13 @@
 -- `ordered::order::broken11` meets its contract.
 use Prim.Native.Nat.{_<_}
 use native.Mathlib.Omega.{arith}
+use borrow.Author.Tests.{le-ltb}
+use Rattle.model.specs.Search.{count}
 use Rattle.model.specs.Layout.{size, sync}
 use Rattle.model.specs.Rules.{broken11}
 use Rattle.model.proofs.Search.{count-le}
-use Rattle.ordered.specs.Firsts.{keys}
-use Rattle.ordered.proofs.Tables.{place-breaks}
+use Rattle.positions.specs.Firsts.{keys}
+use Rattle.positions.proofs.Tables.{place-before}
 use Rattle.ordered.proofs.Ways.{ways, flag-on}
 use borrow.Author.Needs.{needs}
 use Rattle.ordered.proofs.order.broken11.Statement.{statement}
@@ -23,12 +25,18 @@ element-copy-out-result : tie.Need-element-copy-out-result
 element-copy-out-result c = omega (arith, count-le (sync (c .before .before .before .before .before .args .x .now)) (size (c .before .before .before .before .before .args .x .now)))
 
 returns-3 : tie.Need-returns-3
+unfolding broken11
 returns-3 c =
-    let x = c .before .before .before .before .before .before .args .x .now in
-    let small : c .before .before .place .result < keys = omega (arith, count-le (sync x) (size x)) in
-    rw (c .before .before .before .before .before .before .pre .1 .1 .0)
-    (place-breaks x (c .before .before .before .before .before .before .pre .0) (c .before .before .place .result) (c .before .before .before .before .before .before .args .a) small (omega arith)
-    (flag-on (c .before .before .before .before .sync .ensures) (c .before .before .before .if1 .left)) (c .before .before .place .ensures) (omega arith))
+    let start = c .before .before .before .before .before .before in
+    let x = start .args .x .now in
+    let place = c .before .before .place in
+    let small : place .result < keys = omega (arith, count-le (sync x) (size x)) in
+    rw (
+      place-before x (omega arith) (start .args .a) (place .ensures) small (omega arith) (start .pre .1 .1 .0),
+      flag-on (c .before .before .before .before .sync .ensures) (c .before .before .before .if1 .left),
+      ← place .ensures,
+      le-ltb (count (size x) (sync x)) (place .result) (omega arith),
+    )
 
 pub broken11-spec : {M : Type 1} → statement M
 broken11-spec =

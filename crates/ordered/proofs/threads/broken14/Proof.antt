@@ -1,8 +1,8 @@
 -- `ordered::threads::broken14` meets its contract.
 use native.Mathlib.Omega.{arith}
 use Rattle.model.specs.Rules.{broken14}
+use Rattle.positions.proofs.Tables.{thread-before}
 use Rattle.ordered.proofs.Largest.{last-after}
-use Rattle.ordered.proofs.Tables.{thread-before}
 use Rattle.ordered.proofs.Ways.{ways}
 use borrow.Author.Needs.{needs}
 use Rattle.ordered.proofs.threads.broken14.Statement.{statement}
@@ -11,13 +11,15 @@ use Rattle.ordered.proofs.threads.broken14.Tie as tie
 returns : tie.Need-returns
 unfolding broken14
 returns c =
-    let e = thread-before (c .before .before .before .before .before .args .x .now) (c .before .before .before .before .before .pre .0) (c .before .before .thread .result) (c .before .before .before .before .before .args .a) (omega arith) (omega arith) (c .before .before .before .before .before .pre .1 .1 .0) (c .before .before .thread .ensures) in
+    let start = c .before .before .before .before .before in
+    let e = thread-before (start .args .x .now) (omega arith) (start .args .a) (c .before .before .thread .ensures) (omega arith) (omega arith) (start .pre .1 .1 .0) in
     search (ways, e) depth 8
 
 returns-2 : tie.Need-returns-2
 unfolding broken14
 returns-2 c =
-    let e = last-after (c .before .before .before .before .before .before .args .x .now) (c .before .before .before .before .before .before .args .last .now) (c .before .before .before .before .before .before .pre .1 .1 .1 .0) (c .before .before .before .before .before .before .args .a) (c .before .before .before .thread .ensures) (omega arith) in
+    let start = c .before .before .before .before .before .before in
+    let e = last-after (start .args .x .now) (start .args .last .now) (start .pre .1 .1 .1 .0) (start .args .a) (c .before .before .before .thread .ensures) (omega arith) in
     search (ways, e) depth 8
 
 returns-3 : tie.Need-returns-3

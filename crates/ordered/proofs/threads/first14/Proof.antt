@@ -1,54 +1,27 @@
 -- `ordered::threads::first14` meets its contract: no action before a breaks the rule.
-use Prim.Native.Nat.{_-_, _≤_}
+use Prim.Native.Nat.{_-_}
 use native.Mathlib.Omega.{arith}
-use mathlib.Core.Path.{_≡_, sym, _∙_}
-use mathlib.Core.Bool.{false}
-use Rattle.model.specs.Layout.{size}
-use Rattle.model.specs.Search.{any}
-use Rattle.model.specs.Rules.{broken14}
-use Rattle.model.proofs.Search.{any-none, any-pass, found-none, found-at}
-use Rattle.ordered.proofs.Listing.{is-listed}
 use borrow.Author.Needs.{needs}
+use Rattle.model.specs.Rules.{broken14}
+use Rattle.positions.specs.Lists.{lasts}
+use Rattle.positions.proofs.Sets.{are-lasts}
+use Rattle.positions.proofs.Listing.{is-listed}
+use Rattle.positions.proofs.Passed.{Passed, passed-none, passed-more, passed-here, passed-all}
 use Rattle.ordered.proofs.threads.first14.Statement.{statement}
 use Rattle.ordered.proofs.threads.first14.Tie as tie
 
 abbrev Inv-loop : tie.InvT-loop
-Inv-loop x n first last start list count a₀ a = (a ≤ n) × (any a (broken14 x) ≡ false)
+Inv-loop x n first last start list count a₀ a = Passed (broken14 x) n a
 
 abbrev μ-loop : tie.MeasureT-loop
 μ-loop x n first last start list count a₀ a = n - a
 
-loop-holds : tie.Need-loop-holds Inv-loop μ-loop
-loop-holds c = (omega arith, any-none _)
-
 broken14-requires : tie.Need-broken14-requires Inv-loop μ-loop
-broken14-requires c κs = (
-  c .before .before .before .before .before .before .before .before .before .before .before .before .before .pre,
-  (
-    omega (arith, c .before .before .before .before .before .before .before .before .before .before .before .size .ensures),
-    (
-      c .before .before .before .before .before .before .before .before .before .before .firsts .ensures,
-      (
-        c .before .before .before .before .before .before .before .before .before .lasts .ensures,
-        (c .before .before .before .before .before .before .before .before .firsts2 .ensures, rw (c .before .before .before .before .before .before .before .listed .ensures) (is-listed (c .before .before .before .before .before .before .before .before .before .before .before .before .before .args .x .now) 9 9 (c .before .before .before .before .before .before .before .before .before .before .before .before .before .pre))),
-      ),
-    ),
-  ),
-)
-
-returns : tie.Need-returns Inv-loop μ-loop
-returns c =
-    sym
-    (found-at _ _ (c .before .before .before .before .before .before .before .before .loop .a) (omega (arith, c .before .before .before .before .before .before .before .before .before .before .before .before .before .size .ensures)) (c .before .before .before .before .before .before .before .before .loop .inv .1) (sym (c .before .broken14 .ensures) ∙ c .if1 .taken))
-
-loop-again : tie.Need-loop-again Inv-loop μ-loop
-loop-again c =
-    (omega arith, any-pass _ _ (c .before .before .before .before .before .before .before .before .loop .inv .1) (sym (c .before .broken14 .ensures) ∙ c .if1 .left))
-
-returns-2 : tie.Need-returns-2 Inv-loop μ-loop
-returns-2 c =
-    let e : c .before .loop .a ≡ size (c .before .before .before .before .before .before .before .before .args .x .now) = omega (arith, c .before .before .before .before .before .before .size .ensures) in
-    sym (found-none _ _ (rw e at (c .before .loop .inv .1)))
+broken14-requires c κs =
+    let found = c .before .before .before .before .before .before .before in
+    let start = found .before .before .before .before .before .before in
+    let ends = is-listed (start .args .x .now) lasts (are-lasts (start .args .x .now)) (start .pre) in
+    (start .pre, (omega (arith, found .before .before .before .before .size .ensures), (found .before .before .before .firsts .ensures, (found .before .before .lasts .ensures, (found .before .firsts2 .ensures, rw (found .listed .ensures) ends)))))
 
 pub first14-spec : {M : Type 1} → statement M
 first14-spec =
@@ -61,10 +34,10 @@ first14-spec =
     (λ c κs. search needs)
     (λ c κs. search needs)
     (λ c κs. search needs)
-    loop-holds
+    (λ c. passed-none _ _)
     broken14-requires
-    returns
+    (λ c. passed-here (c .before .before .before .before .before .before .before .before .loop .inv) (c .before .before .before .before .before .before .before .before .before .before .before .before .before .size .ensures) (omega arith) (c .before .broken14 .ensures) (c .if1 .taken))
     (λ c. search needs)
     (λ c. search needs)
-    loop-again
-    returns-2)
+    (λ c. passed-more (c .before .before .before .before .before .before .before .before .loop .inv) (omega arith) (c .before .broken14 .ensures) (c .if1 .left))
+    (λ c. passed-all (c .before .loop .inv) (c .before .before .before .before .before .before .size .ensures) (omega arith)))

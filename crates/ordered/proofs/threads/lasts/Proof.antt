@@ -4,7 +4,7 @@ use native.Mathlib.Omega.{arith}
 use mathlib.Core.Path.{_≡_, refl}
 use lib.ListN.{length, length-set}
 use Rattle.model.specs.Layout.{size, thread}
-use Rattle.ordered.specs.Firsts.{keys}
+use Rattle.positions.specs.Firsts.{keys}
 use Rattle.ordered.specs.Threads.{Largest}
 use Rattle.ordered.proofs.Largest.{largest-none, largest-more, largest-le}
 use borrow.Author.Needs.{needs}

@@ -4,8 +4,7 @@ use mathlib.Core.Path.{sym, _∙_}
 use lib.ListN.{getD}
 use borrow.Author.Tests.{lt-ltb, le-ltb}
 use Rattle.model.specs.Rules.{misstarted}
-use Rattle.ordered.specs.Threads.{begun}
-use Rattle.ordered.proofs.Tables.{start-before}
+use Rattle.positions.proofs.Tables.{start-before}
 use Rattle.ordered.proofs.Ways.{ways, equal-to}
 use borrow.Author.Needs.{needs}
 use Rattle.ordered.proofs.threads.misstarted.Statement.{statement}
@@ -21,16 +20,16 @@ returns-2 c =
     let x = c .before .before .before .before .before .before .args .x .now in
     let a = c .before .before .before .before .before .before .args .a in
     let f = rw (c .before .before .before .before .target .ensures, c .before .before .before .thread .ensures) at (c .before .before .if1 .left) in
-    let e = start-before x (c .before .before .before .before .before .before .pre .0) (c .before .before .before .before .target .result) a (omega arith) (omega arith) (c .before .before .before .before .before .before .pre .1 .1 .1) (c .before .before .before .before .target .ensures) in
+    let e = start-before x (omega arith) a (c .before .before .before .before .target .ensures) (omega arith) (omega arith) (c .before .before .before .before .before .before .pre .1 .1 .1) in
     search (ways, f, sym e ∙ lt-ltb (getD (c .before .before .before .before .before .before .args .start .now) (c .before .before .before .before .target .result) 0) a (c .if2 .taken))
 
 returns-3 : tie.Need-returns-3
-unfolding misstarted begun
+unfolding misstarted
 returns-3 c =
     let x = c .before .before .before .before .before .before .before .args .x .now in
     let a = c .before .before .before .before .before .before .before .args .a in
     let f = rw (c .before .before .before .before .before .target .ensures, c .before .before .before .before .thread .ensures) at (c .before .before .before .if1 .left) in
-    let e = start-before x (c .before .before .before .before .before .before .before .pre .0) (c .before .before .before .before .before .target .result) a (omega arith) (omega arith) (c .before .before .before .before .before .before .before .pre .1 .1 .1) (c .before .before .before .before .before .target .ensures) in
+    let e = start-before x (omega arith) a (c .before .before .before .before .before .target .ensures) (omega arith) (omega arith) (c .before .before .before .before .before .before .before .pre .1 .1 .1) in
     search (ways, f, sym (le-ltb (getD (c .before .before .before .before .before .before .before .args .start .now) (c .before .before .before .before .before .target .result) 0) a (c .before .if2 .left)) ∙ e)
 
 pub misstarted-spec : {M : Type 1} → statement M

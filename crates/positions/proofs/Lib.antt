@@ -1,0 +1,7 @@
+pub mod Sets
+pub mod Listing
+pub mod Tables
+pub mod Slots
+pub mod Passed
+pub mod Limited
+pub mod Unique

@@ -12,11 +12,11 @@ use Rattle.model.specs.Search.{any}
 use Rattle.model.specs.Kinds.{kindRow}
 use Rattle.model.specs.Layout.{size, kind, row, read}
 use Rattle.model.specs.Relations.{hb}
+use Rattle.model.specs.declared.Header.{Header}
 use Rattle.model.specs.Rules.{seen-at, broken17, broken18}
 use Rattle.model.specs.Serial.{serial}
-use Rattle.model.proofs.Search.{any-not}
+use Rattle.model.proofs.Search.{any-not, any-never}
 use Rattle.model.proofs.Serial.{Order, serial-order}
-use Rattle.model.proofs.Serial.Searches.{any-never}
 pub mod Kinds
 pub mod Latest
 pub mod Edges
@@ -86,6 +86,6 @@ module _ (x : List ℕ) (passed : Passed x) where
     λ f. let order = serial-order x (passed .placed) in consistent x passed (serial x (size x)) order (f (serial x (size x)) order),
   )
 
--- the same of a section x of the record r, of which nothing is asked but the tests of the numbers
-pub checked-orders : (r : List ℕ) (s : ℕ) (x : List ℕ) → Checked r s x → Consistent x ↔ ((l : List ℕ) → Order x l → Shows x l)
-checked-orders r s x c = consistent-orders x (checked-passed r s x c)
+-- the same of a section x of a record with the header h, of which nothing is asked but the tests of the numbers
+pub checked-orders : (h : Header) (s : ℕ) (x : List ℕ) → Checked h s x → Consistent x ↔ ((l : List ℕ) → Order x l → Shows x l)
+checked-orders h s x c = consistent-orders x (checked-passed h s x c)

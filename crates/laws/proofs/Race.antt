@@ -16,12 +16,12 @@ use Rattle.model.specs.Relations.{po, sw, edge, reach, hb}
 use Rattle.model.specs.Relations as Relations
 use Rattle.model.specs.Limits.{partWords}
 use Rattle.model.specs.WorkArea.{part, laid, filled}
-use Rattle.model.specs.Rules.{broken11, broken12, monitored, held, broken13, least, first-of, misstarted, misjoined, broken14, ordered, racing}
+use Rattle.model.specs.Rules.{broken11, broken12, monitored, held, broken13, least, first-of, begun, misstarted, ended, misjoined, broken14, ordered, racing}
 use Rattle.model.specs.Questions.{race-refusal, left, race-of, race, race-words}
 use Rattle.model.proofs.Search.{any-same, first-same, count-same}
 use Rattle.model.proofs.Words.{length-part}
 use Rattle.model.proofs.Answers.{rule-same, rule₂-same, then-next}
-use Rattle.laws.proofs.Tests.{both, asked}
+use Rattle.model.proofs.Bools.{both, asked}
 
 -- Two sections alike but for the fields that the race answer does not ask for
 pub record Alike (x y : List ℕ) : Type 0 where
@@ -108,7 +108,7 @@ module _ (x y : List ℕ) (same : Alike x y) where
 
   module _ (a : ℕ) (h : a < n) where
     same-misstarted : misstarted x a ≡ misstarted y a
-    unfolding misstarted
+    unfolding begun misstarted
     same-misstarted =
         let f : ℕ = first-of x (target x a) in
         cc (
@@ -123,12 +123,11 @@ module _ (x y : List ℕ) (same : Alike x y) where
         )
 
     same-misjoined : misjoined x a ≡ misjoined y a
-    unfolding misjoined
+    unfolding ended misjoined
     same-misjoined =
         cc (
           same .counts,
-          any-same (λ b. eqb (kind x b) 9 && eqb (thread x b) (target x a) && ltb (place x b) (place x a))
-              (λ b. eqb (kind y b) 9 && eqb (thread y b) (target y a) && ltb (place y b) (place y a)) n
+          any-same (λ b. eqb (kind x b) 9 && ended x a b) (λ b. eqb (kind y b) 9 && ended y a b) n
               (λ b l. cc (same .kinds b l, same .threads b l, same .targets a h, same .places b l, same .places a h)),
         )
 

@@ -13,7 +13,7 @@ use Rattle.model.specs.Layout.{size, kind, target, row, read, write}
 use Rattle.model.specs.Relations.{plain, race, hb}
 use Rattle.model.specs.Rules.{rival}
 use Rattle.model.proofs.Search.{any-not}
-use Rattle.laws.proofs.Tests.{both}
+use Rattle.model.proofs.Bools.{both}
 use Rattle.laws.proofs.Consistent.Kinds.{plain-write, write-unread}
 use Rattle.laws.proofs.Consistent.Section.{Passed}
 

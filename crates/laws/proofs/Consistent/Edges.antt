@@ -11,9 +11,9 @@ use Rattle.model.specs.Search.{any}
 use Rattle.model.specs.Kinds.{kindRow}
 use Rattle.model.specs.Layout.{size, thread, kind, target, place, sync}
 use Rattle.model.specs.Relations.{sw}
-use Rattle.model.specs.Rules.{first-of, misstarted, misjoined, broken14}
-use Rattle.model.proofs.Search.{any-not, first-at}
-use Rattle.laws.proofs.Tests.{both, either, neither, any-some}
+use Rattle.model.specs.Rules.{first-of, begun, misstarted, ended, misjoined, broken14}
+use Rattle.model.proofs.Search.{any-not, first-at, any-some}
+use Rattle.model.proofs.Bools.{both, either, neither}
 
 -- two synchronization actions, the second of larger place
 pub record Later (x : List ℕ) (a b : ℕ) : Type 0 where
@@ -65,7 +65,7 @@ module _ (x : List ℕ) (rule14 : any (size x) (broken14 x) ≡ false) where
       eqb-false (thread x b) (thread x a) (rw (lt-ltb a b l) at (any-not later (size x) b k none)) (sym t)
 
   start-later : (a b : ℕ) → a < size x → b < size x → kind x a ≡ 7 → kind x b ≡ 8 → target x a ≡ thread x b → place x a < place x b
-  unfolding misstarted
+  unfolding begun misstarted
   start-later a b h k p q t =
       let e : f ≡ b = ap (first-of x) t ∙ first-is b k q in
       ltb-true (place x a) (place x b)
@@ -76,25 +76,24 @@ module _ (x : List ℕ) (rule14 : any (size x) (broken14 x) ≡ false) where
 
       first-larger : ltb f (size x) && not (eqb (kind x f) 8 && ltb (place x a) (place x f)) ≡ false
       first-larger =
-          neither (eqb (target x a) (thread x a) || any a (λ c. eqb (kind x c) 7 && eqb (target x c) (target x a)))
-          (ltb f (size x) && not (eqb (kind x f) 8 && ltb (place x a) (place x f)))
+          neither (eqb (target x a) (thread x a) || any a (λ c. eqb (kind x c) 7 && eqb (target x c) (target x a))) (begun x a)
           (rw (eq-eqb (kind x a) 7 p) at (kept a h .started)) .1
 
   join-later : (a b : ℕ) → a < size x → b < size x → kind x a ≡ 9 → kind x b ≡ 10 → thread x a ≡ target x b → place x a < place x b
-  unfolding misjoined
+  unfolding ended misjoined
   join-later a b h k p q t =
       let some : any (size x) lasts ≡ true = not-false (any (size x) lasts) (rw (eq-eqb (kind x b) 10 q) at (kept b k .joined)) in
-      let c = any-some (size x) lasts some in
-      let u = both (eqb (kind x (c .0)) 9 && eqb (thread x (c .0)) (target x b)) (ltb (place x (c .0)) (place x b)) (c .2) in
-      let v = both (eqb (kind x (c .0)) 9) (eqb (thread x (c .0)) (target x b)) (u .0) in
-      let w : thread x (c .0) ≡ thread x a = eqb-true (thread x (c .0)) (target x b) (v .1) ∙ sym t in
-      let before : c .0 < a → ⊥ = last-only (c .0) a (c .1) h (eqb-true (kind x (c .0)) 9 (v .0)) w in
+      let c = any-some lasts (size x) some in
+      let u = both (eqb (kind x (c .0)) 9) (ended x b (c .0)) (c .2) in
+      let v = both (eqb (thread x (c .0)) (target x b)) (ltb (place x (c .0)) (place x b)) (u .1) in
+      let w : thread x (c .0) ≡ thread x a = eqb-true (thread x (c .0)) (target x b) (v .0) ∙ sym t in
+      let before : c .0 < a → ⊥ = last-only (c .0) a (c .1) h (eqb-true (kind x (c .0)) 9 (u .0)) w in
       let after : a < c .0 → ⊥ = last-only a (c .0) h (c .1) p (sym w) in
       let e : c .0 ≡ a = omega arith in
-      rw e at (ltb-true (place x (c .0)) (place x b) (u .1))
+      rw e at (ltb-true (place x (c .0)) (place x b) (v .1))
     where
       lasts : ℕ → Bool
-      lasts c = eqb (kind x c) 9 && eqb (thread x c) (target x b) && ltb (place x c) (place x b)
+      lasts c = eqb (kind x c) 9 && ended x b c
 
   module _ (a b : ℕ) (h : a < size x) (k : b < size x) where
     -- an edge between actions of kinds i and j

@@ -10,20 +10,19 @@ use lib.Dec.{eqb, ltb}
 use borrow.Author.Tests.{ltb-true, ltb-false, lt-ltb, not-true}
 use Rattle.model.specs.Search.{any, first}
 use Rattle.model.specs.Layout.{size, place}
-use Rattle.model.specs.Rules.{rival, latest}
-use Rattle.model.proofs.Search.{any-same, any-not, any-at, first-same, first-none}
-use Rattle.model.proofs.Serial.Searches.{first-is, any-first, any-never}
+use Rattle.model.specs.Rules.{rival, earlier, latest}
+use Rattle.model.proofs.Search.{any-same, any-not, any-at, first-same, first-none, first-is, any-first, any-never, any-some, first-only}
 use Rattle.model.proofs.Serial.Progress.{entry}
-use Rattle.laws.proofs.Tests.{both, asked, any-some, first-only}
+use Rattle.model.proofs.Bools.{both, asked}
 
 module _ (B : ℕ → ℕ → Bool) (x : List ℕ) (a : ℕ) where
   -- b is a write to a's variable, before a by B
-  abbrev pub earlier : ℕ → Bool
-  earlier b = rival x a b && B b a
+  abbrev pub earlier-by : ℕ → Bool
+  earlier-by b = rival x a b && B b a
 
   -- and none of these is after b
   abbrev pub last : ℕ → Bool
-  last b = earlier b && not (any (size x) (λ c. earlier c && B b c))
+  last b = earlier-by b && not (any (size x) (λ c. earlier-by c && B b c))
 
   -- the last write to a's variable before a; the section's size where there is none, which is the initial write
   unfoldable pub latest-by : ℕ
@@ -35,7 +34,7 @@ module _ (B : ℕ → ℕ → Bool) (x : List ℕ) (a : ℕ) where
 
 -- rule 17's write of largest place is the latest one by places
 pub latest-place : (x : List ℕ) (a : ℕ) → latest x a ≡ latest-by (λ b c. ltb (place x b) (place x c)) x a
-unfolding latest latest-by
+unfolding earlier latest latest-by
 latest-place x a = refl
 
 -- b stands before c in the list l
@@ -52,22 +51,22 @@ module _
     (to : (b : ℕ) → b < size x → rival x a b ≡ true → B b a ≡ C b a)
     (between : (b c : ℕ) → b < size x → c < size x → rival x a b ≡ true → rival x a c ≡ true → B b c ≡ C b c)
   where
-    earlier-same : (b : ℕ) → b < size x → earlier B x a b ≡ earlier C x a b
+    earlier-same : (b : ℕ) → b < size x → earlier-by B x a b ≡ earlier-by C x a b
     earlier-same b h = asked (rival x a b) (B b a) (C b a) (to b h)
 
     last-same : (b : ℕ) → b < size x → last B x a b ≡ last C x a b
     last-same b h =
         cc (
           earlier-same b h,
-          asked (earlier B x a b) (not (any (size x) (λ c. earlier B x a c && B b c))) (not (any (size x) (λ c. earlier C x a c && C b c)))
-              (λ e. cc (any-same (λ c. earlier B x a c && B b c) (λ c. earlier C x a c && C b c) (size x) (same (both (rival x a b) (B b a) e .0)))),
+          asked (earlier-by B x a b) (not (any (size x) (λ c. earlier-by B x a c && B b c))) (not (any (size x) (λ c. earlier-by C x a c && C b c)))
+              (λ e. cc (any-same (λ c. earlier-by B x a c && B b c) (λ c. earlier-by C x a c && C b c) (size x) (same (both (rival x a b) (B b a) e .0)))),
         )
       where
-        same : rival x a b ≡ true → (c : ℕ) → c < size x → earlier B x a c && B b c ≡ earlier C x a c && C b c
+        same : rival x a b ≡ true → (c : ℕ) → c < size x → earlier-by B x a c && B b c ≡ earlier-by C x a c && C b c
         same r c k =
             cc (
               earlier-same c k,
-              asked (earlier B x a c) (B b c) (C b c) (λ e. between b c h k r (both (rival x a c) (B c a) e .0)),
+              asked (earlier-by B x a c) (B b c) (C b c) (λ e. between b c h k r (both (rival x a c) (B c a) e .0)),
             )
 
     pub latest-same : latest-by B x a ≡ latest-by C x a
@@ -88,7 +87,7 @@ module _ (x l : List ℕ) (a : ℕ) where
   Initial = (b : ℕ) → b < size x → rival x a b ≡ true → entry l a ≤ entry l b
 
   abbrev stands-before : ℕ → Bool
-  stands-before = earlier (before l) x a
+  stands-before = earlier-by (before l) x a
 
   abbrev stands-after : ℕ → ℕ → Bool
   stands-after w c = stands-before c && before l w c
@@ -130,7 +129,7 @@ module _ (x l : List ℕ) (a : ℕ) where
     where
       go : (u : Bool) → any (size x) (stands-after b) ≡ u → any (size x) (last (before l) x a) ≡ true
       go true q =
-          let (c, k, r) = any-some (size x) (stands-after b) q in
+          let (c, k, r) = any-some (stands-after b) (size x) q in
           let t = both (stands-before c) (before l b c) r in
           f c k (t .0) (ltb-true (entry l b) (entry l c) (t .1))
       go false q = any-at (last (before l) x a) (size x) b h (rw (e, q))
@@ -153,7 +152,7 @@ module _ (x l : List ℕ) (a : ℕ) where
   pub last-latest : ((b c : ℕ) → b < size x → c < size x → entry l b ≡ entry l c → b ≡ c) → (w : ℕ) → Last w → latest-in x l a ≡ w
   unfolding latest-by
   last-latest apart w f =
-      first-only (size x) (last (before l) x a) w (f .within) (is-last w f)
+      first-only (last (before l) x a) (size x) w (f .within) (is-last w f)
       (λ b h e. let g = last-is b h e in apart b w h (f .within) (omega (arith, f .largest b h (g .writes) (g .stands), g .largest w (f .within) (f .writes) (f .stands))))
 
   pub initial-latest : Initial → latest-in x l a ≡ size x

@@ -16,7 +16,7 @@ use Rattle.model.specs.Serial.{listed}
 use Rattle.model.proofs.Closure.{Path⁺, one, join, edge-within, hb-closure}
 use Rattle.model.proofs.Serial.{Order}
 use Rattle.model.proofs.Serial.Progress.{entry, entry-below, entry-at}
-use Rattle.laws.proofs.Tests.{both, either}
+use Rattle.model.proofs.Bools.{both, either}
 use Rattle.laws.proofs.Consistent.Edges.{Later, sw-later}
 
 counted : (p : ℕ → Bool) (n : ℕ) → 1 ≤ count n p → any n p ≡ true

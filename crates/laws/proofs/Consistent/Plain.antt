@@ -13,11 +13,10 @@ use Rattle.model.specs.Search.{any}
 use Rattle.model.specs.Layout.{size, kind, seen}
 use Rattle.model.specs.Relations.{hb}
 use Rattle.model.specs.Rules.{rival, seen-at, seen-hb, broken18}
-use Rattle.model.proofs.Search.{any-not}
+use Rattle.model.proofs.Search.{any-not, any-never}
 use Rattle.model.proofs.Serial.{Order}
-use Rattle.model.proofs.Serial.Searches.{any-never}
 use Rattle.model.proofs.Serial.Progress.{entry}
-use Rattle.laws.proofs.Tests.{both, neither}
+use Rattle.model.proofs.Bools.{both, neither}
 use Rattle.laws.proofs.Consistent.Latest.{latest-in, Last, Initial, latest-last, latest-initial, last-latest, initial-latest}
 use Rattle.laws.proofs.Consistent.Orders.{apart, hb-kept}
 use Rattle.laws.proofs.Consistent.Section.{Passed, seen-initial, seen-rival}

@@ -10,11 +10,10 @@ use Rattle.model.specs.Search.{any}
 use Rattle.model.specs.Layout.{size, ident, seen, row, read}
 use Rattle.model.specs.Relations.{race, hb}
 use Rattle.model.specs.Refused.{met}
-use Rattle.model.specs.Rules.{rival, seen-at, write-ident, broken14, broken15}
-use Rattle.model.proofs.Search.{any-not, first-none}
-use Rattle.model.proofs.Serial.Searches.{any-never}
+use Rattle.model.specs.Rules.{rival, twin, seen-at, write-ident, broken14, broken15}
+use Rattle.model.proofs.Search.{any-not, first-none, any-never, any-some, first-only}
 use Rattle.model.proofs.Serial.Places.{Placed}
-use Rattle.laws.proofs.Tests.{both, any-some, first-only}
+use Rattle.model.proofs.Bools.{both}
 
 -- Of 6 it says that identifiers are not 0, and that a variable is volatile in its reads and in its writes alike
 pub record Passed (x : List ℕ) : Type 0 where
@@ -43,13 +42,13 @@ module _ (x : List ℕ) (passed : Passed x) where
   module _ (a : ℕ) where
     -- the seen write by its identifier
     pub seen-of : (b : ℕ) → b < size x → seen x a ≡ ident x b → seen-at x a ≡ b
-    unfolding seen-at
+    unfolding twin
     seen-of b h e =
-        first-only (size x) (λ c. eqb (ident x c) (seen x a)) b h (eq-eqb (ident x b) (seen x a) (sym e))
+        first-only (λ c. eqb (ident x c) (seen x a)) (size x) b h (eq-eqb (ident x b) (seen x a) (sym e))
         (λ c k t. ident-apart c b k h (eqb-true (ident x c) (seen x a) t ∙ e))
 
     pub seen-initial : seen x a ≡ 0 → seen-at x a ≡ size x
-    unfolding seen-at
+    unfolding twin
     seen-initial e =
         first-none (λ c. eqb (ident x c) (seen x a)) (size x)
         (any-never (λ c. eqb (ident x c) (seen x a)) (size x) (λ c k. ne-eqb (ident x c) (seen x a) (λ t. passed .named c k (t ∙ e))))
@@ -59,7 +58,7 @@ module _ (x : List ℕ) (passed : Passed x) where
     unfolding broken15
     seen-rival h r z =
         let some : any (size x) sees ≡ true = not-false (any (size x) sees) (rw (r, ne-eqb (seen x a) 0 z) at (any-not (broken15 x) (size x) a h (passed .rule15))) in
-        let (b, k, t) = any-some (size x) sees some in
+        let (b, k, t) = any-some sees (size x) some in
         let u = both (eqb (ident x b) (seen x a)) (rival x a b) t in
         let e : seen x a ≡ ident x b = sym (eqb-true (ident x b) (seen x a) (u .0)) in
         rw (seen-of b k e) (k, u .1, e)

@@ -12,8 +12,8 @@ use Rattle.model.specs.Answers.{upTo, rule, rule₂}
 use Rattle.model.specs.Kinds.{kindRow}
 use Rattle.model.specs.Layout.{byte, start, section, size, value}
 use Rattle.model.specs.Relations.{po, sw, edge, reach, hb, race}
-use Rattle.model.specs.Refused.{unmarked, out-of-range, cut, rule5, targeted, committed-in, fielded, met, sections, rule6, rule7, refusal}
-use Rattle.model.specs.Rules.{broken11, broken12, monitored, held, broken13, least, first-of, misstarted, misjoined, broken14, rival, seen-at, broken15, seen-value, broken16, latest, write-ident, broken17, seen-hb, broken18, ordered, racing}
+use Rattle.model.specs.Refused.{unmarked, stray, out-of-range, cut-at, rule5, targeted, committed-in, carried, fielded, misfielded, met, sections, rule6, rule7, refusal}
+use Rattle.model.specs.Rules.{broken11, broken12, monitored, held, broken13, least, first-of, begun, misstarted, ended, misjoined, broken14, rival, twin, broken15, seen-value, broken16, earlier, latest, write-ident, broken17, seen-hb, broken18, ordered, racing}
 use Rattle.model.proofs.Search.{any-not}
 use Rattle.model.specs.Bench.{M, recordM}
 use Rattle.demands.specs.Variants.{case2, case3, stale}
@@ -30,8 +30,8 @@ module _ (x y : List ℕ) (a : ℕ) where
   abbrev differs : Bool
   differs = any 20 differs-at
 
-alike : (x y : List ℕ) → size x ≡ size y → any (size x) (differs x y) ≡ false → Alike x y
-alike x y e h = (e, kept)
+are-alike : (x y : List ℕ) → size x ≡ size y → any (size x) (differs x y) ≡ false → Alike x y
+are-alike x y e h = (e, kept)
   where
     kept : (a k : ℕ) → a < size x → k < 20 → ignored k ≡ false → byte x (2 + 20 * a + k) ≡ byte y (2 + 20 * a + k)
     kept a k m n i =
@@ -47,13 +47,13 @@ module _ (r : List ℕ) where
   race-free h e n = record { unrefused = (partWords, partWords, h); rules = e; no-race = n }
 
 pub cases : Cases
-unfolding M any first count found upTo rule rule₂ kindRow start section value po sw edge reach hb race unmarked out-of-range cut rule5 targeted committed-in fielded met sections rule6 rule7 refusal broken11 broken12 monitored held broken13 least first-of misstarted misjoined broken14 rival seen-at broken15 seen-value broken16 latest write-ident broken17 seen-hb broken18 ordered racing
+unfolding M any first count found upTo rule rule₂ kindRow start section value po sw edge reach hb race unmarked stray out-of-range cut-at rule5 targeted committed-in carried fielded misfielded met sections rule6 rule7 refusal broken11 broken12 monitored held broken13 least first-of begun misstarted ended misjoined broken14 rival twin broken15 seen-value broken16 earlier latest write-ident broken17 seen-hb broken18 ordered racing
 cases = (
   (race-free recordM refl (rules recordM refl refl refl) refl, refl, refl),
   (race-free case2 refl (rules case2 refl refl refl) refl, refl, λ h. given 17 h),
   (race-free stale refl (rules stale refl refl refl) refl, λ h. given 16 h),
   (refl, rules case3 refl refl refl, λ h. given 16 h, refl),
-  alike (E recordM) (E case2) refl refl,
+  are-alike (E recordM) (E case2) refl refl,
 )
   where
     given : (n : ℕ) → suc n ≡ 0 → ⊥

@@ -11,12 +11,11 @@ use borrow.Author.Tests.{ltb-true, lt-ltb}
 use Rattle.model.specs.Search.{first}
 use Rattle.model.specs.Layout.{size, place, sync}
 use Rattle.model.specs.Serial.{next, due, ready, turn, serial}
-use Rattle.model.proofs.Search.{first-at}
-use Rattle.model.proofs.Serial.Searches.{first-is, any-never}
+use Rattle.model.proofs.Search.{first-at, first-is, any-never}
 use Rattle.model.proofs.Serial.Places.{Placed}
 use Rattle.model.proofs.Serial.Progress.{turn-follows, serial-synced}
 use Rattle.model.proofs.Serial.Steps.{length-serial, serial-at, next-thread}
-use Rattle.laws.proofs.Tests.{both}
+use Rattle.model.proofs.Bools.{both}
 use Rattle.demands.specs.Demands.{GoesOn, Greedy}
 
 -- the first k steps of a longer sequence

@@ -15,7 +15,7 @@ use Rattle.model.specs.Search.{first, count}
 use Rattle.model.specs.Layout.{size}
 use Rattle.model.specs.WorkArea.{list}
 use Rattle.model.proofs.Words.{length-list, getD-list}
-use Rattle.model.proofs.Serial.Searches.{first-is, first-upto}
+use Rattle.model.proofs.Search.{first-is, first-upto}
 use Rattle.model.proofs.Serial.Pigeonhole.{Into, image, count-all, count-one, count-into}
 use Rattle.laws.proofs.Consistent.Orders.{within}
 use Rattle.demands.specs.Demands.{TotalOrder, Sequence, Precedes, ComesFrom}

@@ -15,7 +15,7 @@ use Rattle.model.specs.Relations.{po}
 use Rattle.model.proofs.Serial.{Order}
 use Rattle.model.proofs.Serial.Progress.{entry}
 use Rattle.model.proofs.Serial.Pigeonhole.{Into, image, count-all}
-use Rattle.laws.proofs.Tests.{both}
+use Rattle.model.proofs.Bools.{both}
 use Rattle.laws.proofs.Consistent.Edges.{Later}
 use Rattle.laws.proofs.Consistent.Orders.{within, stands-at, apart, po-kept, places-kept}
 use Rattle.demands.specs.Demands.{so, TotalOrder, Sequence, Precedes}

@@ -3,5 +3,5 @@ pub mod Passed
 pub mod Laid
 pub mod Shown
 pub mod Clean
-pub mod Chain
+pub mod Left
 pub mod Unique

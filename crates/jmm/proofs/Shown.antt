@@ -7,17 +7,17 @@ use mathlib.Core.Bool.{Bool, cond, true}
 use lib.ListN.{length, take, drop}
 use borrow.Author.Tests.{le-leb}
 use Rattle.model.specs.declared.Answer.{Answer}
-use Rattle.model.specs.Limits.{maxActions, rowWords, partWords}
+use Rattle.model.specs.Limits.{maxActions, partWords}
 use Rattle.model.specs.Answers.{pass}
 use Rattle.model.specs.Layout.{K, section, size}
 use Rattle.model.specs.Relations.{hb}
-use Rattle.model.specs.WorkArea.{bit, part, filled}
+use Rattle.model.specs.WorkArea.{shown, part, filled}
 use Rattle.model.specs.Rules.{well-formed, racing}
 use Rattle.model.specs.Justified.{committing}
-use Rattle.model.proofs.Words.{bit-part}
+use Rattle.model.proofs.Words.{shown-part}
 use Rattle.record.specs.declared.Span.{Span}
 use Rattle.record.specs.Sections.{bounded}
-use Rattle.ordered.specs.Limit.{limited}
+use Rattle.positions.specs.Limit.{limited}
 use Rattle.justify.specs.Numbered.{within-limit}
 use Rattle.jmm.specs.Accepted.{Accepted, Filled}
 use Rattle.record.proofs.Parts.{span-section}
@@ -35,26 +35,26 @@ filled-parts r ws n a e =
     rw e (record { accepted = rw (length-filled r ws n room) a; parts = λ s l. part-filled r ws n s l room })
 
 module _ (r : List ℕ) (n : ℕ) (ws : List ℕ) (f : Filled r n ws) (s : ℕ) (l : s < n) where
-  shown : bit rowWords (take (partWords * s + partWords - partWords * s) (drop (partWords * s) ws)) ≡ hb (section r s)
-  shown =
+  shown-at : shown (take (partWords * s + partWords - partWords * s) (drop (partWords * s) ws)) ≡ hb (section r s)
+  shown-at =
       let k : partWords * s + partWords - partWords * s ≡ partWords = omega arith in
-      rw (k, f .parts s l) (bit-part (section r s) (f .accepted .sized s l))
+      rw (k, f .parts s l) (shown-part (section r s) (f .accepted .sized s l))
 
   pub well-formed-as : {x : Span} {q : Answer} → x ≡ bounded r s →
-      (let y = take (x .end - x .at) (drop (x .at) r) in q ≡ limited y (well-formed (bit rowWords (take (partWords * s + partWords - partWords * s) (drop (partWords * s) ws))) s y)) →
+      (let y = take (x .end - x .at) (drop (x .at) r) in q ≡ limited y (well-formed (shown (take (partWords * s + partWords - partWords * s) (drop (partWords * s) ws))) s y)) →
       q ≡ well-formed (hb (section r s)) s (section r s)
   well-formed-as e h =
-      h ∙ ap₂ (λ (g : ℕ → ℕ → Bool) (y : List ℕ). limited y (well-formed g s y)) shown (span-section r s _ e)
+      h ∙ ap₂ (λ (g : ℕ → ℕ → Bool) (y : List ℕ). limited y (well-formed g s y)) shown-at (span-section r s _ e)
       ∙ unlimited (section r s) _ (f .accepted .sized s l)
 
 -- sections 0 and i, the words of part 0 standing first
 module _ (r : List ℕ) (n : ℕ) (ws : List ℕ) (f : Filled r n ws) where
-  shown-first : 0 < n → bit rowWords (take partWords ws) ≡ hb (section r 0)
-  shown-first l = shown r n ws f 0 l
+  shown-first : 0 < n → shown (take partWords ws) ≡ hb (section r 0)
+  shown-first l = shown-at r n ws f 0 l
 
   -- a step G on section 0 and its part
   pub first-as : (G : (ℕ → ℕ → Bool) → List ℕ → Answer) {x : Span} {q : Answer} → 0 < n → x ≡ bounded r 0 →
-      (let y = take (x .end - x .at) (drop (x .at) r) in q ≡ limited y (G (bit rowWords (take partWords ws)) y)) → q ≡ G (hb (section r 0)) (section r 0)
+      (let y = take (x .end - x .at) (drop (x .at) r) in q ≡ limited y (G (shown (take partWords ws)) y)) → q ≡ G (hb (section r 0)) (section r 0)
   first-as G l e h =
       h ∙ ap₂ (λ (g : ℕ → ℕ → Bool) (y : List ℕ). limited y (G g y)) (shown-first l) (span-section r 0 _ e)
       ∙ unlimited (section r 0) _ (f .accepted .sized 0 l)
@@ -65,6 +65,6 @@ module _ (r : List ℕ) (n : ℕ) (ws : List ℕ) (f : Filled r n ws) where
       rw (le-leb (size (section r 0)) maxActions (f .accepted .sized 0 (omega arith)), le-leb (size (section r i)) maxActions (f .accepted .sized i l))
 
   pub committing-as : (i : ℕ) {q : Answer} → i < n →
-      q ≡ cond (within-limit r i) (committing (bit rowWords (take partWords ws)) (bit rowWords (take (partWords * i + partWords - partWords * i) (drop (partWords * i) ws))) r i) pass →
+      q ≡ cond (within-limit r i) (committing (shown (take partWords ws)) (shown (take (partWords * i + partWords - partWords * i) (drop (partWords * i) ws))) r i) pass →
       q ≡ committing (hb (section r 0)) (hb (section r i)) r i
-  committing-as i l h = h ∙ rw (in-limit i l, shown-first (omega arith), shown r n ws f i l)
+  committing-as i l h = h ∙ rw (in-limit i l, shown-first (omega arith), shown-at r n ws f i l)

@@ -12,13 +12,10 @@ ghost use Rattle.model.specs.Questions.{judged, verdict, verdict-words, race-of
 ghost use Rattle.jmm.specs.Accepted.{Accepted, Filled};
 use answers::numbered;
 use model::Answer;
+use model::MAX_WORDS;
+use model::PART_WORDS;
 use record::bounds;
 use record::refusal;
-
-// The words of a part, and of the parts of the longest record.
-const PART: usize = 256;
-
-const WORDS: usize = 2304;
 
 // Fills the parts of the first `parts` sections.
 fn fill_parts(record: &[u8], work: &mut [u64], parts: u8)
@@ -29,8 +26,8 @@ fn fill_parts(record: &[u8], work: &mut [u64], parts: u8)
         let x = bounds(record, s);
         let at = x.at;
         let end = x.end;
-        let from = PART * s as usize;
-        let to = from + PART;
+        let from = PART_WORDS * s as usize;
+        let to = from + PART_WORDS;
         hb::fill(&record[at..end], &mut work[from..to]);
     }
 }
@@ -44,8 +41,8 @@ fn sections(record: &[u8], work: &[u64], n: u8) -> Answer
         let x = bounds(record, s);
         let at = x.at;
         let end = x.end;
-        let from = PART * s as usize;
-        let to = from + PART;
+        let from = PART_WORDS * s as usize;
+        let to = from + PART_WORDS;
         let broken = rules::well_formed(&record[at..end], &work[from..to], s);
         if broken.n != 0 {
             return broken;
@@ -61,9 +58,9 @@ fn sequence(record: &[u8], work: &[u64], k: u8) -> Answer
 {
     for j in 0..k {
         let i = j + 1;
-        let from = PART * i as usize;
-        let to = from + PART;
-        let broken = justify::committing(record, &work[..PART], &work[from..to], i);
+        let from = PART_WORDS * i as usize;
+        let to = from + PART_WORDS;
+        let broken = justify::committing(record, &work[..PART_WORDS], &work[from..to], i);
         if broken.n != 0 {
             return broken;
         }
@@ -96,7 +93,7 @@ pub fn verdict(record: &[u8], work: &mut [u64]) -> Answer
     ensures words { λ r. ⌜ now (work .exit) ≡ verdict-words (now («record» .entry)) (now (work .entry)) ⌝ }
 {
     let k = fields::justifying(record);
-    let refused = refusal(record, PART * (k as usize + 1), work.len());
+    let refused = refusal(record, PART_WORDS * (k as usize + 1), work.len());
     if refused.n != 0 {
         return refused;
     }
@@ -115,7 +112,7 @@ fn race_in(record: &[u8], work: &[u64]) -> Answer
     if unordered.n != 0 {
         return unordered;
     }
-    rules::racing(&record[at..end], &work[..PART])
+    rules::racing(&record[at..end], &work[..PART_WORDS])
 }
 
 // Does the execution have a race?
@@ -123,7 +120,7 @@ pub fn race(record: &[u8], work: &mut [u64]) -> Answer
     ensures answer { λ r. ⌜ r ≡ race (now («record» .entry)) (length (now (work .entry))) ⌝ }
     ensures words { λ r. ⌜ now (work .exit) ≡ race-words (now («record» .entry)) (now (work .entry)) ⌝ }
 {
-    let refused = refusal(record, PART, work.len());
+    let refused = refusal(record, PART_WORDS, work.len());
     if refused.n != 0 {
         return refused;
     }
@@ -135,7 +132,7 @@ pub fn race(record: &[u8], work: &mut [u64]) -> Answer
 fn order_refusal(record: &[u8], lent: usize, room: usize) -> Answer
     ensures { λ r. ⌜ r ≡ order-refusal (now («record» .entry)) lent room ⌝ }
 {
-    let refused = refusal(record, PART, lent);
+    let refused = refusal(record, PART_WORDS, lent);
     if refused.n != 0 {
         return refused;
     }
@@ -155,11 +152,11 @@ fn order_in(record: &[u8], work: &[u64]) -> Answer
     let x = bounds(record, 0);
     let at = x.at;
     let end = x.end;
-    let broken = rules::well_formed(&record[at..end], &work[..PART], 0);
+    let broken = rules::well_formed(&record[at..end], &work[..PART_WORDS], 0);
     if broken.n != 0 {
         return broken;
     }
-    rules::racing(&record[at..end], &work[..PART])
+    rules::racing(&record[at..end], &work[..PART_WORDS])
 }
 
 // A one-at-a-time order of a race-free execution, into the first entries of the list.
@@ -196,7 +193,7 @@ fn packed(r: Answer) -> u64
 pub extern "C" fn jxe_verdict(record: &[u8]) -> u64
     ensures { λ p. ⌜ p ≡ packed (verdict (now («record» .entry)) 2304) ⌝ }
 {
-    let mut work = [0u64; WORDS];
+    let mut work = [0u64; MAX_WORDS];
     packed(verdict(record, &mut work))
 }
 
@@ -204,6 +201,6 @@ pub extern "C" fn jxe_verdict(record: &[u8]) -> u64
 pub extern "C" fn jxe_race(record: &[u8]) -> u64
     ensures { λ p. ⌜ p ≡ packed (race (now («record» .entry)) 256) ⌝ }
 {
-    let mut work = [0u64; PART];
+    let mut work = [0u64; PART_WORDS];
     packed(race(record, &mut work))
 }

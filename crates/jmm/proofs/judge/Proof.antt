@@ -6,7 +6,7 @@ use borrow.Author.Tests.{eq-eqb, ne-eqb}
 use borrow.Author.Needs.{needs}
 use Rattle.model.specs.Questions.{judged}
 use Rattle.model.specs.Layout.{K}
-use Rattle.jmm.proofs.Chain.{ends, goes-on}
+use Rattle.model.proofs.Answers.{ends, goes-on}
 use Rattle.jmm.proofs.judge.Statement.{statement}
 use Rattle.jmm.proofs.judge.Tie as tie
 
@@ -18,7 +18,7 @@ unfolding judged
 returns c =
     let k = c .before .before .before .justifying .ensures in
     let formed = rw k at (c .before .before .sections .ensures) in
-    ends _ _ formed (c .if1 .taken)
+    ends formed _ (c .if1 .taken)
 
 sequence-requires : tie.Need-sequence-requires
 sequence-requires c κs = rw (c .before .before .before .justifying .ensures) (c .before .before .before .before .before .before .pre)
@@ -29,7 +29,7 @@ returns-2 c =
     let k = c .before .before .before .before .before .before .justifying .ensures in
     let formed = rw k at (c .before .before .before .before .before .sections .ensures) in
     let justified = rw k at (c .before .before .sequence .ensures) in
-    goes-on _ _ formed (c .before .before .before .if1 .left) (ends _ _ justified (c .if2 .taken))
+    goes-on formed (c .before .before .before .if1 .left) (ends justified _ (c .if2 .taken))
 
 returns-3 : tie.Need-returns-3
 unfolding judged
@@ -39,7 +39,7 @@ returns-3 c =
     let formed = rw k at (c .before .before .before .before .before .before .before .sections .ensures) in
     let justified = rw k at (c .before .before .before .before .sequence .ensures) in
     let t : eqb (K r) 0 ≡ true = eq-eqb _ _ (sym k ∙ c .before .if3 .taken) in
-    goes-on _ _ formed (c .before .before .before .before .before .if1 .left) (goes-on _ _ justified (c .before .before .if2 .left) (rw t (c .numbered .ensures)))
+    goes-on formed (c .before .before .before .before .before .if1 .left) (goes-on justified (c .before .before .if2 .left) (rw t (c .numbered .ensures)))
 
 returns-4 : tie.Need-returns-4
 unfolding judged
@@ -49,7 +49,7 @@ returns-4 c =
     let formed = rw k at (c .before .before .before .before .before .before .before .sections .ensures) in
     let justified = rw k at (c .before .before .before .before .sequence .ensures) in
     let t : eqb (K r) 0 ≡ false = ne-eqb _ _ (λ e. c .before .if3 .left (k ∙ e)) in
-    goes-on _ _ formed (c .before .before .before .before .before .if1 .left) (goes-on _ _ justified (c .before .before .if2 .left) (rw t (c .numbered2 .ensures)))
+    goes-on formed (c .before .before .before .before .before .if1 .left) (goes-on justified (c .before .before .if2 .left) (rw t (c .numbered2 .ensures)))
 
 pub judge-spec : {M : Type 1} → statement M
 judge-spec =

@@ -6,7 +6,8 @@ use Rattle.model.specs.Questions.{order, order-words}
 use Rattle.model.specs.Answers.{answer}
 use Rattle.model.specs.declared.Answer.{Answer}
 use Rattle.record.proofs.Parts.{span-section, span-low, span-high}
-use Rattle.jmm.proofs.Chain.{list-kept, list-serial, ends, goes-on, untouched, left-filled}
+use Rattle.model.proofs.Answers.{ends, goes-on}
+use Rattle.jmm.proofs.Left.{list-kept, list-serial, untouched, left-filled}
 use Rattle.jmm.proofs.Passed.{order-passed, list-room, accepted}
 use Rattle.jmm.proofs.Shown.{filled-parts}
 use Rattle.jmm.proofs.order.Statement.{statement}
@@ -15,7 +16,7 @@ use Rattle.jmm.proofs.order.Tie as tie
 returns : tie.Need-returns
 unfolding order order-words
 returns c =
-    let answer = ends _ _ (c .before .before .order-refusal .ensures) (c .if1 .taken) in
+    let answer = ends (c .before .before .order-refusal .ensures) _ (c .if1 .taken) in
     (answer, (untouched _ (c .before .before .order-refusal .ensures) _ _ _ (c .if1 .taken), list-kept _ _ _ answer (c .if1 .taken)))
 
 fill-parts-requires : tie.Need-fill-parts-requires
@@ -29,7 +30,7 @@ unfolding order order-words
 returns-2 c =
     let refused = c .before .before .before .before .before .before .before .before .before .before .order-refusal .ensures in
     let on = c .before .before .before .before .before .before .before .before .if1 .left in
-    let answer = goes-on _ _ refused on (c .before .before .order-in .ensures) in
+    let answer = goes-on refused on (c .before .before .order-in .ensures) in
     (answer, (left-filled _ refused _ _ _ on (c .before .before .before .before .before .before .fill-parts .ensures), list-kept _ _ _ answer (c .if2 .taken)))
 
 sub-serial : tie.Need-sub-serial
@@ -46,7 +47,7 @@ unfolding order order-words
 returns-3 c =
     let refused = c .before .before .before .before .before .before .before .before .before .before .before .before .before .before .before .before .order-refusal .ensures in
     let on = c .before .before .before .before .before .before .before .before .before .before .before .before .before .before .if1 .left in
-    let answer = goes-on _ _ refused on (c .before .before .before .before .before .before .before .before .order-in .ensures) in
+    let answer = goes-on refused on (c .before .before .before .before .before .before .before .before .order-in .ensures) in
     let room = list-room _ _ _ (sym (ap (λ (q : Answer). q .n) refused) ∙ on) in
     (answer, (left-filled _ refused _ _ _ on (c .before .before .before .before .before .before .before .before .before .before .before .before .fill-parts .ensures), list-serial _ _ _ answer (c .before .before .before .before .before .before .if2 .left) (span-section _ _ _ (c .before .before .before .before .before .bounds .ensures)) room (c .before .before .serial .ensures)))
 

@@ -8,7 +8,7 @@ use Rattle.model.specs.Rules.{well-formed, racing}
 use Rattle.model.specs.Relations.{hb}
 use Rattle.model.specs.Layout.{section}
 use Rattle.jmm.proofs.Shown.{first-as}
-use Rattle.jmm.proofs.Chain.{ends, goes-on}
+use Rattle.model.proofs.Answers.{ends, goes-on}
 use Rattle.record.proofs.Parts.{span-low, span-high}
 use Rattle.jmm.proofs.order_in.Statement.{statement}
 use Rattle.jmm.proofs.order_in.Tie as tie
@@ -29,7 +29,7 @@ returns : tie.Need-returns
 unfolding order-of
 returns c =
     let x = section (c .before .before .before .before .before .before .before .before .args .«record» .now) 0 in
-    ends (well-formed (hb x) 0 x) (racing (hb x) x) (first-as _ _ _ (c .before .before .before .before .before .before .before .before .pre) (λ h y. well-formed h 0 y) (omega arith) (c .before .before .before .before .before .bounds .ensures) (c .before .before .well-formed .ensures)) (c .if1 .taken)
+    ends (first-as _ _ _ (c .before .before .before .before .before .before .before .before .pre) (λ h y. well-formed h 0 y) (omega arith) (c .before .before .before .before .before .bounds .ensures) (c .before .before .well-formed .ensures)) (racing (hb x) x) (c .if1 .taken)
 
 sub-racing : tie.Need-sub-racing
 sub-racing c = span-low _ _ _ (c .before .before .before .before .before .bounds .ensures)
@@ -49,7 +49,7 @@ returns-2 c =
     let x = section (c .before .before .before .before .before .before .before .before .before .before .before .args .«record» .now) 0 in
     let at = c .before .before .before .before .before .before .before .before .bounds .ensures in
     let formed = first-as _ _ _ (c .before .before .before .before .before .before .before .before .before .before .before .pre) (λ h y. well-formed h 0 y) (omega arith) at (c .before .before .before .before .before .well-formed .ensures) in
-    goes-on (well-formed (hb x) 0 x) (racing (hb x) x) formed (c .before .before .before .if1 .left) (first-as _ _ _ (c .before .before .before .before .before .before .before .before .before .before .before .pre) racing (omega arith) at (c .racing .ensures))
+    goes-on formed (c .before .before .before .if1 .left) (first-as _ _ _ (c .before .before .before .before .before .before .before .before .before .before .before .pre) racing (omega arith) at (c .racing .ensures))
 
 pub order-in-spec : {M : Type 1} → statement M
 order-in-spec =

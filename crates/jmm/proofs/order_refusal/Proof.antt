@@ -9,14 +9,14 @@ use Rattle.model.specs.Questions.{order-refusal, race-refusal}
 use Rattle.model.specs.Refused.{refusal}
 use Rattle.model.specs.Layout.{section, size}
 use Rattle.model.specs.Limits.{partWords}
-use Rattle.jmm.proofs.Chain.{ends, goes-on}
+use Rattle.model.proofs.Answers.{ends, goes-on}
 use Rattle.record.proofs.Parts.{span-low, span-high, span-section}
 use Rattle.jmm.proofs.order_refusal.Statement.{statement}
 use Rattle.jmm.proofs.order_refusal.Tie as tie
 
 returns : tie.Need-returns
 unfolding order-refusal race-refusal
-returns c = ends (refusal (c .before .before .before .before .args .«record» .now) partWords (c .before .before .before .before .args .lent)) _ (c .before .before .refusal .ensures) (c .if1 .taken)
+returns c = ends (c .before .before .refusal .ensures) _ (c .if1 .taken)
 
 sub-size : tie.Need-sub-size
 sub-size c = span-low _ _ _ (c .bounds .ensures)
@@ -33,7 +33,7 @@ returns-2 c =
     let g = c .before .before .before .before .before .before .before .before .before .args in
     let n : c .before .before .size .result ≡ size (section (g .«record» .now) 0) = c .before .before .size .ensures ∙ ap size (span-section _ _ _ (c .before .before .before .before .bounds .ensures)) in
     let t : ltb (g .room) (size (section (g .«record» .now) 0)) ≡ true = lt-ltb (g .room) (size (section (g .«record» .now) 0)) (omega arith) in
-    goes-on (refusal (g .«record» .now) partWords (g .lent)) _ (c .before .before .before .before .before .before .before .refusal .ensures) (c .before .before .before .before .before .if1 .left) (rw t (c .numbered .ensures))
+    goes-on (c .before .before .before .before .before .before .before .refusal .ensures) (c .before .before .before .before .before .if1 .left) (rw t (c .numbered .ensures))
 
 returns-3 : tie.Need-returns-3
 unfolding order-refusal race-refusal
@@ -41,7 +41,7 @@ returns-3 c =
     let g = c .before .before .before .before .before .before .before .before .before .args in
     let n : c .before .before .size .result ≡ size (section (g .«record» .now) 0) = c .before .before .size .ensures ∙ ap size (span-section _ _ _ (c .before .before .before .before .bounds .ensures)) in
     let t : ltb (g .room) (size (section (g .«record» .now) 0)) ≡ false = le-ltb (g .room) (size (section (g .«record» .now) 0)) (omega arith) in
-    goes-on (refusal (g .«record» .now) partWords (g .lent)) _ (c .before .before .before .before .before .before .before .refusal .ensures) (c .before .before .before .before .before .if1 .left) (rw t (c .numbered2 .ensures))
+    goes-on (c .before .before .before .before .before .before .before .refusal .ensures) (c .before .before .before .before .before .if1 .left) (rw t (c .numbered2 .ensures))
 
 pub order-refusal-spec : {M : Type 1} → statement M
 order-refusal-spec =

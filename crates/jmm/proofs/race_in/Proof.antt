@@ -8,7 +8,7 @@ use Rattle.model.specs.Rules.{ordered, racing}
 use Rattle.model.specs.Relations.{hb}
 use Rattle.model.specs.Layout.{section}
 use Rattle.jmm.proofs.Shown.{first-as}
-use Rattle.jmm.proofs.Chain.{ends, goes-on}
+use Rattle.model.proofs.Answers.{ends, goes-on}
 use Rattle.record.proofs.Parts.{span-low, span-high}
 use Rattle.jmm.proofs.race_in.Statement.{statement}
 use Rattle.jmm.proofs.race_in.Tie as tie
@@ -26,7 +26,7 @@ returns : tie.Need-returns
 unfolding race-of
 returns c =
     let x = section (c .before .before .before .before .before .before .before .args .«record» .now) 0 in
-    ends (ordered 0 x) (racing (hb x) x) (first-as _ _ _ (c .before .before .before .before .before .before .before .pre) (λ h y. ordered 0 y) (omega arith) (c .before .before .before .before .bounds .ensures) (c .before .before .ordered .ensures)) (c .if1 .taken)
+    ends (first-as _ _ _ (c .before .before .before .before .before .before .before .pre) (λ h y. ordered 0 y) (omega arith) (c .before .before .before .before .bounds .ensures) (c .before .before .ordered .ensures)) (racing (hb x) x) (c .if1 .taken)
 
 sub-racing : tie.Need-sub-racing
 sub-racing c = span-low _ _ _ (c .before .before .before .before .bounds .ensures)
@@ -45,7 +45,7 @@ unfolding race-of
 returns-2 c =
     let x = section (c .before .before .before .before .before .before .before .before .before .before .args .«record» .now) 0 in
     let at = c .before .before .before .before .before .before .before .bounds .ensures in
-    goes-on (ordered 0 x) (racing (hb x) x) (first-as _ _ _ (c .before .before .before .before .before .before .before .before .before .before .pre) (λ h y. ordered 0 y) (omega arith) at (c .before .before .before .before .before .ordered .ensures)) (c .before .before .before .if1 .left) (first-as _ _ _ (c .before .before .before .before .before .before .before .before .before .before .pre) racing (omega arith) at (c .racing .ensures))
+    goes-on (first-as _ _ _ (c .before .before .before .before .before .before .before .before .before .before .pre) (λ h y. ordered 0 y) (omega arith) at (c .before .before .before .before .before .ordered .ensures)) (c .before .before .before .if1 .left) (first-as _ _ _ (c .before .before .before .before .before .before .before .before .before .before .pre) racing (omega arith) at (c .racing .ensures))
 
 pub race-in-spec : {M : Type 1} → statement M
 race-in-spec =

@@ -6,7 +6,8 @@ use Rattle.model.specs.Questions.{verdict, verdict-words, verdict-refusal}
 use Rattle.model.specs.declared.Answer.{Answer}
 use Rattle.jmm.proofs.Shown.{filled-parts}
 use Rattle.jmm.proofs.Passed.{accepted, few-sections}
-use Rattle.jmm.proofs.Chain.{ends, goes-on, untouched, left-filled}
+use Rattle.model.proofs.Answers.{ends, goes-on}
+use Rattle.jmm.proofs.Left.{untouched, left-filled}
 use Rattle.jmm.proofs.verdict.Statement.{statement}
 use Rattle.jmm.proofs.verdict.Tie as tie
 
@@ -14,7 +15,7 @@ returns : tie.Need-returns
 unfolding verdict verdict-words verdict-refusal
 returns c =
     let refused = rw (c .before .before .before .justifying .ensures) at (c .before .before .refusal .ensures) in
-    (ends _ _ refused (c .if1 .taken), untouched _ refused _ _ _ (c .if1 .taken))
+    (ends refused _ (c .if1 .taken), untouched _ refused _ _ _ (c .if1 .taken))
 
 add-fill-parts : tie.Need-add-fill-parts
 add-fill-parts c =
@@ -37,7 +38,7 @@ unfolding verdict verdict-words verdict-refusal
 returns-2 c =
     let refused = rw (c .before .before .before .before .before .before .before .before .before .justifying .ensures) at (c .before .before .before .before .before .before .before .before .refusal .ensures) in
     let on = c .before .before .before .before .before .before .if1 .left in
-    (goes-on _ _ refused on (c .judge .ensures), left-filled _ refused _ _ _ on (rw (c .before .before .before .before .before .before .before .before .before .justifying .ensures) at (c .before .before .before .before .fill-parts .ensures)))
+    (goes-on refused on (c .judge .ensures), left-filled _ refused _ _ _ on (rw (c .before .before .before .before .before .before .before .before .before .justifying .ensures) at (c .before .before .before .before .fill-parts .ensures)))
 
 pub verdict-spec : {M : Type 1} → statement M
 verdict-spec =

@@ -1,4 +1,4 @@
--- Code that returns at the first number, and goes on at 0, comes to the chain of checks.
+-- What a question leaves in the words and in the list.
 use Prim.Native.Nat.{ℕ, _≤_}
 use mathlib.Core.Path.{_≡_, sym, ap, _∙_}
 use mathlib.Core.List.{List, _++_}
@@ -7,19 +7,10 @@ use lib.ListN.{length, drop}
 use lib.Dec.{leb}
 use borrow.Author.Tests.{eq-eqb, ne-eqb, le-leb}
 use Rattle.model.specs.declared.Answer.{Answer}
-use Rattle.model.specs.Answers.{_then_}
 use Rattle.model.specs.WorkArea.{filled}
 use Rattle.model.specs.Layout.{section, size}
 use Rattle.model.specs.Serial.{serial}
 use Rattle.model.specs.Questions.{left, order, order-list}
-use Rattle.model.proofs.Answers.{then-next, then-ends}
-
-module _ (r s : Answer) {q : Answer} (e : q ≡ r) where
-  pub ends : (q .n ≡ 0 → ⊥) → q ≡ (r then s)
-  ends h = e ∙ sym (then-ends r s (λ z. h (ap (λ (a : Answer). a .n) e ∙ z)))
-
-  pub goes-on : q .n ≡ 0 → {t : Answer} → t ≡ s → t ≡ (r then s)
-  goes-on h f = f ∙ sym (then-next r s (sym (ap (λ (a : Answer). a .n) e) ∙ h))
 
 -- what a question that refuses with q leaves in the words, and one that does not
 module _ (r : Answer) {q : Answer} (e : q ≡ r) (x : List ℕ) (n : ℕ) (ws : List ℕ) where

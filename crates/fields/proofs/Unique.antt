@@ -7,7 +7,7 @@ use Rattle.fields.proofs.threads.Reads as threads
 use Rattle.fields.proofs.variables.Reads as variables
 use Rattle.fields.proofs.monitors.Reads as monitors
 use Rattle.fields.proofs.justifying.Reads as justifying
-use Rattle.fields.proofs.volatile.Reads as volatile
+use Rattle.fields.proofs.header.Reads as header
 use Rattle.fields.proofs.size.Reads as size
 use Rattle.fields.proofs.ident.Reads as ident
 use Rattle.fields.proofs.thread.Reads as thread
@@ -18,6 +18,7 @@ use Rattle.fields.proofs.place.Reads as place
 use Rattle.fields.proofs.seen.Reads as seen
 use Rattle.fields.proofs.unused.Reads as unused
 use Rattle.fields.proofs.value.Reads as value
+use Rattle.fields.proofs.action.Reads as action
 
 pub byte-unique : Settles byte.Post (λ κs r s. r)
 byte-unique κs x r q s t e f = e ∙ sym f
@@ -37,8 +38,8 @@ monitors-unique κs x r q s t e f = e ∙ sym f
 pub justifying-unique : Settles justifying.Post (λ κs r s. r)
 justifying-unique κs x r q s t e f = e ∙ sym f
 
-pub volatile-unique : Settles volatile.Post (λ κs r s. r)
-volatile-unique κs x r q s t e f = e ∙ sym f
+pub header-unique : Settles header.Post (λ κs r s. r)
+header-unique κs x r q s t e f = e ∙ sym f
 
 pub size-unique : Settles size.Post (λ κs r s. r)
 size-unique κs x r q s t e f = e ∙ sym f
@@ -69,3 +70,6 @@ unused-unique κs x r q s t e f = e ∙ sym f
 
 pub value-unique : Settles value.Post (λ κs r s. r)
 value-unique κs x r q s t e f = e ∙ sym f
+
+pub action-unique : Settles action.Post (λ κs r s. r)
+action-unique κs x r q s t e f = e ∙ sym f

@@ -1,9 +1,11 @@
 // The fields of a record and of a section, read from their bytes in place. A byte past the end reads as 0, so every accessor takes every input.
+use model::Action;
+use model::Header;
 ghost use mathlib.Core.Path.{_≡_};
 ghost use Prim.Native.Nat.{_+_, _*_, _<_};
 ghost use mir.Syntax.{w64};
 ghost use mir.Val.{toZ};
-ghost use Rattle.model.specs.Layout.{byte, two, eight, version, threads, variables, monitors, K, volatile, size, ident, thread, kind, target, commit, place, seen, unused, value};
+ghost use Rattle.model.specs.Layout.{byte, two, eight, version, threads, variables, monitors, K, header, size, ident, thread, kind, target, commit, place, seen, unused, value, action};
 
 // "JXE", the first bytes of a record.
 pub const MARK: [u8; 3] = [74, 88, 69];
@@ -76,10 +78,16 @@ pub fn justifying(r: &[u8]) -> u8
     byte(r, 8)
 }
 
-pub fn volatile(r: &[u8], v: u8) -> bool
-    ensures { λ b. ⌜ b ≡ volatile (now (r .entry)) v ⌝ }
+pub fn header(r: &[u8]) -> Header
+    ensures { λ h. ⌜ h ≡ header (now (r .entry)) ⌝ }
 {
-    (byte(r, 9 + v as u32 / 8) >> (v % 8)) % 2 == 1
+    Header {
+        threads: threads(r),
+        variables: variables(r),
+        monitors: monitors(r),
+        justifying: justifying(r),
+        map: eight(r, 9),
+    }
 }
 
 // A section: the count of its actions, then the fields of action a.
@@ -151,4 +159,19 @@ pub fn value(x: &[u8], a: u16) -> i64
     ensures { λ b. ⌜ b ≡ value (now (x .entry)) a ⌝ }
 {
     signed(eight(x, 2 + 20 * (a as u32) + 12))
+}
+
+pub fn action(x: &[u8], a: u16) -> Action
+    ensures { λ q. ⌜ q ≡ action (now (x .entry)) a ⌝ }
+{
+    Action {
+        ident: ident(x, a),
+        thread: thread(x, a),
+        kind: kind(x, a),
+        target: target(x, a),
+        commit: commit(x, a),
+        place: place(x, a),
+        seen: seen(x, a),
+        value: value(x, a),
+    }
 }

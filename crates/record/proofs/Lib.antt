@@ -1,5 +1,6 @@
+-- The laws of the reader.
 pub mod Parts
-pub mod Neither
 pub mod Cuts
 pub mod Stages
+pub mod Unrefused
 pub mod Unique

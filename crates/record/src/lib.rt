@@ -1,14 +1,20 @@
 // The reader: a record is refused, with a number from 1 to 7, exactly when document 01 says. A section is the part of the record's bytes from its start to its end.
 use answers::numbered;
 use model::Answer;
+use model::Header;
+use model::MAX_ACTIONS;
+use model::MAX_JUSTIFYING;
+use model::MAX_MONITORS;
+use model::MAX_THREADS;
+use model::MAX_VARIABLES;
 ghost use mathlib.Core.Path.{_≡_};
 ghost use Prim.Native.Nat.{_+_, _<_, _≤_, min};
 ghost use lib.ListN.{length};
 ghost use Rattle.model.specs.Search.{any};
 ghost use Rattle.model.specs.Answers.{upTo};
 ghost use Rattle.model.specs.Layout.{two, past, section, K};
-ghost use Rattle.model.specs.Refused.{unmarked, out-of-range, rule5, refusal};
-ghost use Rattle.record.specs.Sections.{bounded, stray, cut-at, checked};
+ghost use Rattle.model.specs.Refused.{unmarked, stray, out-of-range, cut-at, rule5, refusal};
+ghost use Rattle.record.specs.Sections.{bounded, checked};
 
 // The first byte of section 0.
 const HEADER: usize = 17;
@@ -17,16 +23,6 @@ const HEADER: usize = 17;
 const COUNT: usize = 2;
 
 const ACTION: usize = 20;
-
-const MAX_THREADS: u8 = 16;
-
-const MAX_VARIABLES: u8 = 64;
-
-const MAX_MONITORS: u8 = 32;
-
-const MAX_JUSTIFYING: u8 = 8;
-
-const MAX_ACTIONS: u16 = 128;
 
 // Where a section stands in the record's bytes.
 pub struct Span {
@@ -53,7 +49,7 @@ fn past(r: &[u8], p: usize) -> usize
     p + (COUNT + ACTION * count(r, p) as usize)
 }
 
-fn least(a: usize, b: usize) -> usize
+fn smaller(a: usize, b: usize) -> usize
     ensures { λ m. ⌜ m ≡ min a b ⌝ }
 {
     if a < b { a } else { b }
@@ -68,8 +64,8 @@ pub fn bounds(r: &[u8], s: u8) -> Span
         p = past(r, p);
     }
     Span {
-        at: least(p, r.len()),
-        end: least(past(r, p), r.len()),
+        at: smaller(p, r.len()),
+        end: smaller(past(r, p), r.len()),
     }
 }
 
@@ -88,49 +84,36 @@ fn unmarked(r: &[u8]) -> bool
     false
 }
 
-// Bit v of the map is set, and v is no variable.
-fn stray(r: &[u8], v: u8) -> bool
-    ensures { λ b. ⌜ b ≡ stray (now (r .entry)) v ⌝ }
+// Bits from V up have to be clear.
+fn strays(h: Header) -> bool
+    ensures { λ b. ⌜ b ≡ any 64 (stray h) ⌝ }
 {
-    if v < fields::variables(r) {
+    if h.variables as usize >= MAX_VARIABLES {
         return false;
     }
-    fields::volatile(r, v)
-}
-
-// Bits from V up have to be clear.
-fn strays(r: &[u8]) -> bool
-    ensures { λ b. ⌜ b ≡ any 64 (stray (now (r .entry))) ⌝ }
-{
-    for v in 0..MAX_VARIABLES {
-        if stray(r, v) {
-            return true;
-        }
-    }
-    false
+    h.map >> h.variables != 0
 }
 
 // Number 3.
-fn out_of_range(r: &[u8]) -> bool
-    ensures { λ b. ⌜ b ≡ out-of-range (now (r .entry)) ⌝ }
+fn out_of_range(h: Header) -> bool
+    ensures { λ b. ⌜ b ≡ out-of-range h ⌝ }
 {
-    let threads = fields::threads(r);
-    if threads < 1 {
+    if h.threads < 1 {
         return true;
     }
-    if threads > MAX_THREADS {
+    if h.threads as usize > MAX_THREADS {
         return true;
     }
-    if fields::variables(r) > MAX_VARIABLES {
+    if h.variables as usize > MAX_VARIABLES {
         return true;
     }
-    if fields::monitors(r) > MAX_MONITORS {
+    if h.monitors as usize > MAX_MONITORS {
         return true;
     }
-    if fields::justifying(r) > MAX_JUSTIFYING {
+    if h.justifying as usize > MAX_JUSTIFYING {
         return true;
     }
-    strays(r)
+    strays(h)
 }
 
 // Number 5 for the section that starts at p.
@@ -141,7 +124,7 @@ fn cut(r: &[u8], p: usize) -> bool
     if r.len() - p < COUNT {
         return true;
     }
-    if count(r, p) > MAX_ACTIONS {
+    if count(r, p) as usize > MAX_ACTIONS {
         return true;
     }
     r.len() < past(r, p)
@@ -167,26 +150,26 @@ fn lengths(r: &[u8]) -> Answer
 }
 
 // The section check of section s, whose bytes are x: 6, or else 7.
-fn checked(r: &[u8], s: u8, x: &[u8], six: bool) -> Answer
-    ensures { λ q. ⌜ q ≡ checked six (now (r .entry)) s (now (x .entry)) ⌝ }
+fn checked(h: Header, s: u8, x: &[u8], six: bool) -> Answer
+    ensures { λ q. ⌜ q ≡ checked six h s (now (x .entry)) ⌝ }
 {
     if six {
-        section::misfielded(r, s, x)
+        section::misfielded(h, s, x)
     } else {
         section::repeated(s, x)
     }
 }
 
 // Number 6, or else 7: every section as its own part of the record.
-fn sections(r: &[u8], six: bool) -> Answer
-    requires { ⌜ K (now r) ≤ 8 ⌝ }
-    ensures { λ q. ⌜ q ≡ upTo (K (now (r .entry)) + 1) (λ s. checked six (now (r .entry)) s (section (now (r .entry)) s)) ⌝ }
+fn sections(r: &[u8], h: Header, six: bool) -> Answer
+    requires { ⌜ h .justifying ≤ 8 ⌝ }
+    ensures { λ q. ⌜ q ≡ upTo (h .justifying + 1) (λ s. checked six h s (section (now (r .entry)) s)) ⌝ }
 {
-    for s in 0..fields::justifying(r) + 1 {
+    for s in 0..h.justifying + 1 {
         let span = bounds(r, s);
         let at = span.at;
         let end = span.end;
-        let q = checked(r, s, &r[at..end], six);
+        let q = checked(h, s, &r[at..end], six);
         if q.n != 0 {
             return q;
         }
@@ -204,7 +187,8 @@ pub fn refusal(r: &[u8], need: usize, lent: usize) -> Answer
     if fields::version(r) != 1 {
         return numbered(2, 0);
     }
-    if out_of_range(r) {
+    let h = fields::header(r);
+    if out_of_range(h) {
         return numbered(3, 0);
     }
     if lent < need {
@@ -214,9 +198,9 @@ pub fn refusal(r: &[u8], need: usize, lent: usize) -> Answer
     if q.n != 0 {
         return q;
     }
-    let q = sections(r, true);
+    let q = sections(r, h, true);
     if q.n != 0 {
         return q;
     }
-    sections(r, false)
+    sections(r, h, false)
 }

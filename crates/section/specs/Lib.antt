@@ -1,3 +1,2 @@
 -- What the section check's own functions come to.
-pub mod Fields
 pub mod Map

@@ -34,7 +34,7 @@ returns c =
     let b = c .before .before .before in
     let e : b .before .loop .counter ≡ b .before .before .before .args .s = omega arith in
     let p : b .before .loop .p ≡ start (b .before .before .before .args .r .now) (b .before .before .before .args .s) = rw e at (b .before .loop .inv .1) in
-    rw (c .before .before .least .ensures, c .least2 .ensures, c .before .past2 .ensures, p)
+    rw (c .before .before .smaller .ensures, c .smaller2 .ensures, c .before .past2 .ensures, p)
 
 pub bounds-spec : {M : Type 1} → statement M
 bounds-spec =

@@ -6,7 +6,7 @@ use borrow.Author.Needs.{needs}
 use borrow.Author.Tests.{lt-ltb, le-ltb}
 use Rattle.model.specs.Limits.{maxActions}
 use Rattle.model.specs.Layout.{two}
-use Rattle.record.specs.Sections.{cut-at}
+use Rattle.model.specs.Refused.{cut-at}
 use Rattle.record.proofs.cut.Statement.{statement}
 use Rattle.record.proofs.cut.Tie as tie
 
@@ -35,6 +35,7 @@ cut-spec =
     (λ c. search needs)
     returns
     (λ c κs. search needs)
+    (λ c. search needs)
     returns-2
     (λ c κs. search needs)
     returns-3)

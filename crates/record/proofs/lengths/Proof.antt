@@ -8,7 +8,7 @@ use borrow.Author.Needs.{needs}
 use Rattle.model.specs.Answers.{pass, upTo}
 use Rattle.model.specs.Layout.{past, start, K}
 use Rattle.model.proofs.Answers.{upTo-none}
-use Rattle.record.specs.Sections.{cut-at}
+use Rattle.model.specs.Refused.{cut-at}
 use Rattle.record.proofs.Parts.{start-more}
 use Rattle.record.proofs.Cuts.{cuts, uncut, cuts-pass, rule5-cut, rule5-left, rule5-pass}
 use Rattle.record.proofs.lengths.Statement.{statement}
@@ -42,7 +42,7 @@ loop-again c =
     let k : cut-at r (start r (l .loop .s)) ≡ false = rw (l .loop .inv .1) at h in (
       omega arith,
       c .past .ensures ∙ ap (past r) (l .loop .inv .1) ∙ sym (start-more r (l .loop .s)),
-      rw (c .past .ensures) (uncut r (l .loop .p) h),
+      rw (c .past .ensures) (uncut r (l .loop .p) h .1),
       cuts-pass r (l .loop .s) k (l .loop .inv .3),
     )
 

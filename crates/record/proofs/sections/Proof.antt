@@ -7,8 +7,9 @@ use mathlib.Core.Bool.{Bool}
 use lib.ListN.{length}
 use borrow.Author.Needs.{needs}
 use Rattle.model.specs.declared.Answer.{Answer}
+use Rattle.model.specs.declared.Header.{Header}
 use Rattle.model.specs.Answers.{pass, upTo}
-use Rattle.model.specs.Layout.{section, K}
+use Rattle.model.specs.Layout.{section}
 use Rattle.model.proofs.Answers.{upTo-none, upTo-pass, upTo-at}
 use Rattle.record.specs.Sections.{checked}
 use Rattle.record.proofs.Parts.{span-section, span-low, span-high}
@@ -16,17 +17,17 @@ use Rattle.record.proofs.Stages.{clean-checked}
 use Rattle.record.proofs.sections.Statement.{statement}
 use Rattle.record.proofs.sections.Tie as tie
 
-abbrev turn : Bool → List ℕ → ℕ → Answer
-turn six r s = checked six r s (section r s)
+abbrev turn : Bool → Header → List ℕ → ℕ → Answer
+turn six h r s = checked six h s (section r s)
 
 abbrev Inv-loop : tie.InvT-loop
-Inv-loop r six s₀ s-end s = (s ≤ K r + 1) × (upTo s (turn six r) ≡ pass)
+Inv-loop r h six s₀ s-end s = (s ≤ h .justifying + 1) × (upTo s (turn six h r) ≡ pass)
 
 abbrev μ-loop : tie.MeasureT-loop
-μ-loop r six s₀ s-end s = K r + 1 - s
+μ-loop r h six s₀ s-end s = h .justifying + 1 - s
 
 loop-holds : tie.Need-loop-holds Inv-loop μ-loop
-loop-holds c = let p = c .before .before .args in (search needs, upTo-none (turn (p .six) (p .r .now)))
+loop-holds c = (search needs, upTo-none _)
 
 -- the section check is of the section
 low : (c : tie.After-bounds Inv-loop μ-loop) → c .bounds .result .at ≤ c .bounds .result .end
@@ -35,7 +36,7 @@ low c = span-low (c .before .before .before .before .before .args .r .now) (c .b
 high : (c : tie.After-bounds Inv-loop μ-loop) → c .bounds .result .end ≤ length (c .before .before .before .before .before .args .r .now)
 high c = span-high (c .before .before .before .before .before .args .r .now) (c .before .before .loop .s) (c .bounds .result) (c .bounds .ensures)
 
-turned : (c : tie.After-checked Inv-loop μ-loop) → let p = c .before .before .before .before .before .before .before .args in c .checked .result ≡ turn (p .six) (p .r .now) (c .before .before .before .before .loop .s)
+turned : (c : tie.After-checked Inv-loop μ-loop) → let l = c .before .before .before .before in let p = l .before .before .before .args in c .checked .result ≡ turn (p .six) (p .h) (p .r .now) (l .loop .s)
 turned c =
     let b = c .before .before in
     let l = b .before .before in
@@ -48,7 +49,7 @@ returns c =
     let p = l .before .before .before .args in
     let e = turned (c .before .before) in
     e
-    ∙ sym (upTo-at (turn (p .six) (p .r .now)) (K (p .r .now) + 1) (l .loop .s) (omega arith) (l .loop .inv .1) (rw e at (c .if1 .taken)))
+    ∙ sym (upTo-at (turn (p .six) (p .h) (p .r .now)) (p .h .justifying + 1) (l .loop .s) (omega arith) (l .loop .inv .1) (rw e at (c .if1 .taken)))
 
 loop-again : tie.Need-loop-again Inv-loop μ-loop
 loop-again c =
@@ -56,14 +57,13 @@ loop-again c =
     let p = l .before .before .before .args in
     let e = turned (c .before .before) in (
       omega arith,
-      upTo-pass (turn (p .six) (p .r .now)) (l .loop .s) (l .loop .inv .1) (clean-checked (p .r .now) (p .six) (l .loop .s) _ (rw e at (c .if1 .left))),
+      upTo-pass (turn (p .six) (p .h) (p .r .now)) (l .loop .s) (l .loop .inv .1) (clean-checked (p .six) (p .h) (l .loop .s) _ (rw e at (c .if1 .left))),
     )
 
 returns-2 : tie.Need-returns-2 Inv-loop μ-loop
 returns-2 c =
     let l = c .before .before in
-    let p = l .before .before .before .args in
-    let e : l .loop .s ≡ K (p .r .now) + 1 = omega arith in
+    let e : l .loop .s ≡ l .before .before .before .args .h .justifying + 1 = omega arith in
     c .numbered .ensures ∙ sym (rw e at (l .loop .inv .1))
 
 pub sections-spec : {M : Type 1} → statement M
@@ -72,7 +72,6 @@ sections-spec =
     (tie.spec
     Inv-loop
     μ-loop
-    (λ c κs. search needs)
     (λ c. search needs)
     loop-holds
     (λ c κs. search needs)

@@ -1,13 +1,13 @@
 -- `section::misfielded` meets its contract.
-use mathlib.Core.Path.{_∙_}
 use borrow.Author.Needs.{needs}
-use Rattle.model.specs.Answers.{rule}
+use Rattle.model.proofs.Answers.{named}
 use Rattle.section.proofs.misfielded.Statement.{statement}
 use Rattle.section.proofs.misfielded.Tie as tie
 
-returns : tie.Need-returns
-unfolding rule
-returns c = c .naming .ensures ∙ rw (c .before .first-misfielded .ensures)
-
 pub misfielded-spec : {M : Type 1} → statement M
-misfielded-spec = tie.close (tie.spec (λ c κs. search needs) (λ c κs. search needs) returns)
+misfielded-spec =
+    tie.close
+    (tie.spec
+    (λ c κs. search needs)
+    (λ c κs. search needs)
+    (λ c. named _ _ _ _ (c .before .first-misfielded .ensures) (c .naming .ensures)))

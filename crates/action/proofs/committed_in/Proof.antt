@@ -1,12 +1,12 @@
--- `section::committed_in` meets its contract.
+-- `action::committed_in` meets its contract.
 use Prim.Native.Nat.{min}
 use native.Mathlib.Omega.{arith}
 use mathlib.Core.Path.{_≡_}
 use mathlib.Core.Bool.{and-true, and-false}
 use borrow.Author.Tests.{eq-eqb, ne-eqb, le-leb, lt-leb}
 use Rattle.model.specs.Refused.{committed-in}
-use Rattle.section.proofs.committed_in.Statement.{statement}
-use Rattle.section.proofs.committed_in.Tie as tie
+use Rattle.action.proofs.committed_in.Statement.{statement}
+use Rattle.action.proofs.committed_in.Tie as tie
 
 returns : tie.Need-returns
 unfolding committed-in

@@ -15,8 +15,7 @@ use Rattle.model.specs.Relations.{hb, race}
 use Rattle.model.specs.Refused.{misfielded, met, sections, rule6, rule7, refusal}
 use Rattle.model.specs.Rules.{broken11, broken12, broken13, least, broken14, broken15, broken17, broken18, ordered, racing}
 use Rattle.model.proofs.Answers.{then-both, upTo-each, rule-none, rule-nowhere, rule₂-nowhere}
-use Rattle.record.specs.Unrefused.{Unrefused}
-use Rattle.record.proofs.Unrefused.{unrefused}
+use Rattle.record.proofs.Unrefused.{Unrefused, unrefused}
 use Rattle.laws.proofs.Consistent.{Consistent}
 use Rattle.laws.proofs.Consistent.Fields.{Checked}
 use Rattle.demands.specs.Demands.{E, Passes, Passes17, Passes18, RaceFree}
@@ -73,8 +72,8 @@ module _ (r : List ℕ) (free : RaceFree r) where
       let k = kept r (u .0) (u .1) (u .2) in
       record {
         threads-few = k .few-threads;
-        rule6 = first-section r (u .0) (u .1) (u .2) 6 (misfielded (header r)) (omega arith) (k .rule6-passed);
-        rule7 = first-section r (u .0) (u .1) (u .2) 7 (λ s. met) (omega arith) (k .rule7-passed);
+        rule6 = first-section r (u .0) (u .1) (u .2) 6 (misfielded (header r)) (omega arith) (k .passes-6);
+        rule7 = first-section r (u .0) (u .1) (u .2) 7 (λ s. met) (omega arith) (k .passes-7);
         rule11 = here 11 (broken11 (E r)) (omega arith) (past-11 .0);
         rule12 = here 12 (broken12 (E r)) (omega arith) (past-12 .0);
         rule14 =

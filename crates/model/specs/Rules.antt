@@ -50,7 +50,7 @@ unfoldable pub begun : List ℕ → ℕ → Bool
 begun x a =
     let b = first-of x (target x a) in ltb b (size x) && not (eqb (kind x b) 8 && ltb (place x a) (place x b))
 
--- a start: of the own thread; of one already started; of one that has begun
+-- a start: of the own thread; of one already started; of one whose actions do not begin after it
 unfoldable pub misstarted : List ℕ → ℕ → Bool
 misstarted x a =
     eqb (target x a) (thread x a)

@@ -19,6 +19,16 @@ pub const MAX_JUSTIFYING: usize = 8;
 
 pub const MAX_ACTIONS: usize = 128;
 
+// Bytes: of the header, of a section's count, of an action, and of the longest record.
+pub const HEADER_BYTES: usize = 17;
+
+pub const COUNT_BYTES: usize = 2;
+
+pub const ACTION_BYTES: usize = 20;
+
+pub const MAX_BYTES: usize = HEADER_BYTES
+    + (MAX_JUSTIFYING + 1) * (COUNT_BYTES + ACTION_BYTES * MAX_ACTIONS);
+
 // 64-bit words of the work area: of a row, of a part, and of the parts of the longest record.
 pub const ROW_WORDS: usize = 2;
 

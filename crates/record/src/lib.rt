@@ -1,6 +1,9 @@
 // The reader: a record is refused, with a number from 1 to 7, exactly when document 01 says. A section is the part of the record's bytes from its start to its end.
 use answers::numbered;
+use model::ACTION_BYTES;
 use model::Answer;
+use model::COUNT_BYTES;
+use model::HEADER_BYTES;
 use model::Header;
 use model::MAX_ACTIONS;
 use model::MAX_JUSTIFYING;
@@ -15,14 +18,6 @@ ghost use Rattle.model.specs.Answers.{upTo};
 ghost use Rattle.model.specs.Layout.{two, past, section, K};
 ghost use Rattle.model.specs.Refused.{unmarked, stray, out-of-range, cut-at, rule5, refusal};
 ghost use Rattle.record.specs.Sections.{bounded, checked};
-
-// The first byte of section 0.
-const HEADER: usize = 17;
-
-// The bytes of a section's count, and of an action.
-const COUNT: usize = 2;
-
-const ACTION: usize = 20;
 
 // Where a section stands in the record's bytes.
 pub struct Span {
@@ -46,7 +41,7 @@ fn past(r: &[u8], p: usize) -> usize
     requires { ⌜ p < 9223372036854775808 ⌝ }
     ensures { λ e. ⌜ e ≡ past (now (r .entry)) p ⌝ }
 {
-    p + (COUNT + ACTION * count(r, p) as usize)
+    p + (COUNT_BYTES + ACTION_BYTES * count(r, p) as usize)
 }
 
 fn smaller(a: usize, b: usize) -> usize
@@ -59,7 +54,7 @@ fn smaller(a: usize, b: usize) -> usize
 pub fn bounds(r: &[u8], s: u8) -> Span
     ensures { λ b. ⌜ b ≡ bounded (now (r .entry)) s ⌝ }
 {
-    let mut p = HEADER;
+    let mut p = HEADER_BYTES;
     for _ in 0..s {
         p = past(r, p);
     }
@@ -73,7 +68,7 @@ pub fn bounds(r: &[u8], s: u8) -> Span
 fn unmarked(r: &[u8]) -> bool
     ensures { λ b. ⌜ b ≡ unmarked (now (r .entry)) ⌝ }
 {
-    if r.len() < HEADER {
+    if r.len() < HEADER_BYTES {
         return true;
     }
     for i in 0..3 {
@@ -121,7 +116,7 @@ fn cut(r: &[u8], p: usize) -> bool
     requires { ⌜ p ≤ length (now r) ⌝ }
     ensures { λ b. ⌜ b ≡ cut-at (now (r .entry)) p ⌝ }
 {
-    if r.len() - p < COUNT {
+    if r.len() - p < COUNT_BYTES {
         return true;
     }
     if count(r, p) as usize > MAX_ACTIONS {
@@ -136,7 +131,7 @@ fn lengths(r: &[u8]) -> Answer
     ensures { λ q. ⌜ q ≡ rule5 (now (r .entry)) ⌝ }
 {
     let last = fields::justifying(r);
-    let mut p = HEADER;
+    let mut p = HEADER_BYTES;
     for s in 0..last + 1 {
         if cut(r, p) {
             return numbered(5, s);

@@ -6,5 +6,6 @@ pub mod Bench
 pub mod Serial
 pub mod Closure
 pub mod Synchronizes
+pub mod Map
 pub mod Signed
 pub mod Settles

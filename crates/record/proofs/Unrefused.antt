@@ -7,7 +7,7 @@ use lib.Dec.{lit<}
 use borrow.Author.Tests.{ltb-false, eqb-true, not-false}
 use Rattle.model.specs.Limits.{maxActions}
 use Rattle.model.specs.Layout.{version, threads, K, header, start, section, size}
-use Rattle.model.specs.Refused.{unmarked, out-of-range, cut-at, rule5, rule6, rule7, refusal}
+use Rattle.model.specs.Refused.{unmarked, out-of-range, rule5, rule6, rule7, refusal}
 use Rattle.model.proofs.Answers.{then-both, upTo-each, when-not}
 use Rattle.record.proofs.Parts.{size-section}
 use Rattle.record.proofs.Cuts.{cuts, uncut}

@@ -1,14 +1,13 @@
 -- The map of identifiers, from one action to the next.
-use Prim.Native.Nat.{ℕ, _+_, _*_, _/_, _%_, _<_}
+use Prim.Native.Nat.{ℕ, _+_, _/_, _%_, _<_}
 use native.Mathlib.Decide.{ℕ-discrete}
 use native.Mathlib.Omega.{arith}
-use mathlib.Core.Path.{_≡_, refl, sym, ap, _∙_}
+use mathlib.Core.Path.{_≡_, refl, sym, _∙_}
 use mathlib.Core.List.{List}
-use mathlib.Core.Bool.{Bool, false, _&&_, and-false}
+use mathlib.Core.Bool.{false, _&&_, and-false}
 use lib.Dec.{eqb}
 use borrow.Author.Tests.{eq-eqb, ne-eqb}
 use Rattle.model.specs.Layout.{ident}
-use Rattle.model.specs.Search.{any}
 use Rattle.model.specs.Refused.{met}
 use Rattle.model.proofs.Search.{any-none, any-more, any-same}
 use Rattle.model.proofs.Words.{bit-rows}

@@ -1,5 +1,4 @@
 -- `action::carried` meets its contract.
-use mathlib.Core.Path.{_∙_}
 use lib.IntN.{pos}
 use borrow.Author.Needs.{needs}
 use borrow.Author.Tests.{eq-eqb, ne-eqb}

@@ -1,5 +1,5 @@
 -- `section::first_repeated` meets its contract. The loop's invariant: no identifier before a was already met, and the map shows those before a.
-use Prim.Native.Nat.{ℕ, _-_, _≤_}
+use Prim.Native.Nat.{_-_, _≤_}
 use native.Mathlib.Omega.{arith}
 use mathlib.Core.Path.{_≡_, sym, ap, _∙_}
 use mathlib.Core.Bool.{false}

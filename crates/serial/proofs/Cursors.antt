@@ -11,8 +11,7 @@ use borrow.Author.Tests.{ltb-true, ltb-false, eqb-true, eqb-false, lt-ltb, le-lt
 use Rattle.model.specs.Layout.{size, thread, place, sync}
 use Rattle.model.specs.Search.{first, count}
 use Rattle.model.specs.Serial.{listed, next, due, ready, turn, serial}
-use Rattle.model.proofs.Search.{first-same}
-use Rattle.model.proofs.Serial.Searches.{first-is}
+use Rattle.model.proofs.Search.{first-same, first-is}
 use Rattle.model.proofs.Serial.Steps.{listed-none, due-more, due-upto, serial-more, length-serial, next-thread, next-kept, next-moved, serial-prefix}
 use Rattle.serial.specs.Cursors.{action-from, ready-at, lowest, turn-at, moved, Starts}
 

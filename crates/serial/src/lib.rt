@@ -1,21 +1,14 @@
 // The one-at-a-time order of a section, put into a lent list.
+use model::MAX_THREADS;
+use table::sync;
 ghost use mathlib.Core.Path.{_≡_};
 ghost use mathlib.Core.List.{_++_};
 ghost use mathlib.Core.Bool.{cond};
 ghost use lib.ListN.{length, drop};
 ghost use lib.Dec.{leb};
-ghost use Rattle.model.specs.Layout.{size, sync};
+ghost use Rattle.model.specs.Layout.{size};
 ghost use Rattle.model.specs.Serial.{serial};
 ghost use Rattle.serial.specs.Cursors.{action-from, ready-at, lowest, turn-at, moved, Starts};
-
-// Threads of a record, at most.
-const THREADS: usize = 16;
-
-fn sync(x: &[u8], a: u16) -> bool
-    ensures { λ r. ⌜ r ≡ sync (now (x .entry)) a ⌝ }
-{
-    table::row_of(fields::kind(x, a)).sync
-}
 
 // Thread t's first action from position `at` on; the section's size where there is none.
 fn action_from(x: &[u8], t: u8, at: u16) -> u16
@@ -33,11 +26,11 @@ fn action_from(x: &[u8], t: u8, at: u16) -> u16
 }
 
 // Each thread's first action.
-fn starts(x: &[u8]) -> [u16; THREADS]
+fn starts(x: &[u8]) -> [u16; MAX_THREADS]
     ensures { λ r. ⌜ Starts (now (x .entry)) r ⌝ }
 {
-    let mut next = [0u16; THREADS];
-    for t in 0..THREADS {
+    let mut next = [0u16; MAX_THREADS];
+    for t in 0..MAX_THREADS {
         next[t] = action_from(x, t as u8, 0);
     }
     next
@@ -60,12 +53,12 @@ fn lowest(x: &[u8], next: &[u16], due: u32) -> usize
     requires { ⌜ length (now next) ≡ 16 ⌝ }
     ensures { λ r. ⌜ r ≡ lowest (now (x .entry)) (now (next .entry)) due ⌝ }
 {
-    for t in 0..THREADS {
+    for t in 0..MAX_THREADS {
         if ready(x, due, next[t]) {
             return t;
         }
     }
-    THREADS
+    MAX_THREADS
 }
 
 // The position listed at this step. Its thread's next position moves on: all moves of a thread together pass the section once.
@@ -74,7 +67,7 @@ fn turn(x: &[u8], next: &mut [u16], due: u32) -> u16
     ensures { λ r. ⌜ (r ≡ turn-at (now (x .entry)) (now (next .entry)) due) × (now (next .exit) ≡ moved (now (x .entry)) (now (next .entry)) due) ⌝ }
 {
     let t = lowest(x, next, due);
-    if t >= THREADS {
+    if t >= MAX_THREADS {
         return fields::size(x);
     }
     let a = next[t];

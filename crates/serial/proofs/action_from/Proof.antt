@@ -9,8 +9,7 @@ use borrow.Author.Needs.{needs}
 use borrow.Author.Tests.{eq-eqb, ne-eqb, le-leb, lt-leb}
 use Rattle.model.specs.Search.{any}
 use Rattle.model.specs.Layout.{size, thread}
-use Rattle.model.proofs.Search.{any-pass, any-less, first-none, first-at}
-use Rattle.model.proofs.Serial.Searches.{any-never}
+use Rattle.model.proofs.Search.{any-never, any-pass, any-less, first-none, first-at}
 use Rattle.serial.specs.Cursors.{action-from}
 use Rattle.serial.proofs.action_from.Statement.{statement}
 use Rattle.serial.proofs.action_from.Tie as tie

@@ -1,4 +1,4 @@
--- `ordered::lists::listed` meets its contract: the list has the positions before b.
+-- `positions::lists::listed` meets its contract: the list has the positions before b.
 use Prim.Native.Nat.{ℕ, _-_, _≤_}
 use native.Mathlib.Omega.{arith}
 use mathlib.Core.Path.{_≡_, refl, sym, _∙_}
@@ -9,18 +9,18 @@ use lib.ListN.{length, replicate, length-set}
 use Rattle.model.specs.Limits.{maxActions}
 use Rattle.model.specs.Search.{count}
 use Rattle.model.proofs.Search.{count-none, count-more}
-use Rattle.ordered.specs.Lists.{of-kinds, packed, within, listed}
-use Rattle.ordered.proofs.Listing.{packed-in, packed-out, within-fits}
+use Rattle.positions.specs.Lists.{of-kinds, packed, within, listed}
+use Rattle.positions.proofs.Listing.{packed-in, packed-out, within-fits}
 use borrow.Author.Needs.{needs}
-use Rattle.ordered.proofs.lists.listed.Statement.{statement}
-use Rattle.ordered.proofs.lists.listed.Tie as tie
+use Rattle.positions.proofs.lists.listed.Statement.{statement}
+use Rattle.positions.proofs.lists.listed.Tie as tie
 
 abbrev Inv-loop : tie.InvT-loop
-Inv-loop x one other n l₀ m₀ b₀ l m b =
-    (b ≤ n) × (n ≤ maxActions) × (length l ≡ maxActions) × (m ≤ b) × (m ≡ count b (of-kinds x one other)) × (l ≡ packed (of-kinds x one other) b (replicate maxActions 0))
+Inv-loop x set n l₀ m₀ b₀ l m b =
+    (b ≤ n) × (n ≤ maxActions) × (length l ≡ maxActions) × (m ≤ b) × (m ≡ count b (of-kinds x set)) × (l ≡ packed (of-kinds x set) b (replicate maxActions 0))
 
 abbrev μ-loop : tie.MeasureT-loop
-μ-loop x one other n l₀ m₀ b₀ l m b = n - b
+μ-loop x set n l₀ m₀ b₀ l m b = n - b
 
 loop-holds : tie.Need-loop-holds Inv-loop μ-loop
 unfolding packed
@@ -52,7 +52,7 @@ loop-again c =
     (c .if1 .came)
   where
     q : ℕ → Bool
-    q = let start = c .before .before .before .before .before .before in of-kinds (start .args .x .now) (start .args .one) (start .args .other)
+    q = let start = c .before .before .before .before .before .before in of-kinds (start .args .x .now) (start .args .set)
 
     b : ℕ
     b = c .before .before .before .loop .b

@@ -1,4 +1,4 @@
--- The rules keep what they find in tables with room for the limit. A section over the limit is in no record that isn't refused, and passes.
+-- What is found is kept in tables with room for the limit. A section over the limit is in no record that isn't refused, and passes.
 use mathlib.Core.List.{List}
 use mathlib.Core.Bool.{cond}
 use Prim.Native.Nat.{ℕ}

@@ -1,0 +1,5 @@
+pub mod Sets
+pub mod Listing
+pub mod Tables
+pub mod Slots
+pub mod Unique

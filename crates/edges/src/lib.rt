@@ -12,14 +12,13 @@ use fields::justifying;
 use fields::size;
 use relations::po;
 use relations::sw;
-use rows::before;
 
 // Whether z is between x and y in hb.
 fn through(part: &[u64], x: u16, y: u16, z: u16) -> bool
     ensures { λ r. ⌜ r ≡ through (shown (now (part .entry))) x y z ⌝ }
 {
-    if before(part, x, z) {
-        before(part, z, y)
+    if rows::before(part, x, z) {
+        rows::before(part, z, y)
     } else {
         false
     }

@@ -14,10 +14,10 @@ use Rattle.justify.proofs.found.mask.Statement.{statement}
 use Rattle.justify.proofs.found.mask.Tie as tie
 
 abbrev Inv-loop : tie.InvT-loop
-Inv-loop own e f index least i n m₀ b₀ m b = (b ≤ n) × (length m ≡ rowWords) × Masked rowWords m b (chosen own e f i)
+Inv-loop own e f firsts least i n m₀ b₀ m b = (b ≤ n) × (length m ≡ rowWords) × Masked m b (chosen own e f i)
 
 abbrev μ-loop : tie.MeasureT-loop
-μ-loop own e f index least i n m₀ b₀ m b = n - b
+μ-loop own e f firsts least i n m₀ b₀ m b = n - b
 
 loop-holds : tie.Need-loop-holds Inv-loop μ-loop
 loop-holds c = (search needs, refl, masked-none _ _ rowWords)

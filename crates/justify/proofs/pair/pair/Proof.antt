@@ -5,7 +5,7 @@ use denote.Ref.{now}
 use borrow.Author.Needs.{needs}
 use borrow.Author.Tests.{lt-ltb, le-ltb}
 use Rattle.model.specs.Layout.{size}
-use Rattle.justify.specs.Numbered.{parted}
+use Rattle.justify.specs.ByNumber.{parted}
 use Rattle.justify.proofs.Names.{span-e}
 use Rattle.justify.proofs.pair.pair.Statement.{statement}
 use Rattle.justify.proofs.pair.pair.Tie as tie

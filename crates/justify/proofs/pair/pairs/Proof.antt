@@ -4,22 +4,21 @@ use native.Mathlib.Omega.{arith}
 use mathlib.Core.Path.{_≡_, sym, _∙_}
 use mathlib.Core.Bool.{false}
 use borrow.Author.Needs.{needs}
-use Rattle.model.specs.Limits.{rowWords}
 use Rattle.model.specs.Search.{any, none}
-use Rattle.model.specs.WorkArea.{bit}
+use Rattle.model.specs.WorkArea.{shown}
 use Rattle.model.proofs.Search.{any-none, any-pass}
 use Rattle.model.proofs.Answers.{rule₂-none, rule₂-at}
-use Rattle.justify.specs.Numbered.{parted}
+use Rattle.justify.specs.ByNumber.{parted}
 use Rattle.justify.proofs.Names.{none-holds}
 use Rattle.justify.proofs.pair.pairs.Statement.{statement}
 use Rattle.justify.proofs.pair.pairs.Tie as tie
 
 abbrev Inv-loop : tie.InvT-loop
-Inv-loop number e f e-part f-part index twins least i n mask calm x₀ x =
-    (x ≤ n) × (any x (λ a. any n (parted number (bit rowWords e-part) (bit rowWords f-part) e f i a)) ≡ false)
+Inv-loop number e f e-part f-part firsts twins least i n mask calm x₀ x =
+    (x ≤ n) × (any x (λ a. any n (parted number (shown e-part) (shown f-part) e f i a)) ≡ false)
 
 abbrev μ-loop : tie.MeasureT-loop
-μ-loop number e f e-part f-part index twins least i n mask calm x₀ x = n - x
+μ-loop number e f e-part f-part firsts twins least i n mask calm x₀ x = n - x
 
 mask-requires : tie.Need-mask-requires Inv-loop μ-loop
 mask-requires c κs = let staged = c .before .before .before .before .before .pre .0 .0 in (staged, rw (c .size .ensures) (staged .few))

@@ -5,7 +5,7 @@ use denote.Ref.{now}
 use borrow.Author.Needs.{needs}
 use borrow.Author.Tests.{lt-ltb, le-ltb, ne-eqb}
 use Rattle.model.specs.Layout.{size}
-use Rattle.justify.specs.Numbered.{single}
+use Rattle.justify.specs.ByNumber.{single}
 use Rattle.justify.proofs.Names.{span-e}
 use Rattle.justify.proofs.single.single.Statement.{statement}
 use Rattle.justify.proofs.single.single.Tie as tie

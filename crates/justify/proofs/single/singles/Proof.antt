@@ -4,20 +4,19 @@ use native.Mathlib.Omega.{arith}
 use mathlib.Core.Path.{_≡_, sym, _∙_}
 use mathlib.Core.Bool.{false}
 use borrow.Author.Needs.{needs}
-use Rattle.model.specs.Limits.{rowWords}
 use Rattle.model.specs.Search.{any, none}
-use Rattle.model.specs.WorkArea.{bit}
+use Rattle.model.specs.WorkArea.{shown}
 use Rattle.model.proofs.Search.{any-none, any-pass}
 use Rattle.model.proofs.Answers.{rule-none, rule-at}
-use Rattle.justify.specs.Numbered.{single}
+use Rattle.justify.specs.ByNumber.{single}
 use Rattle.justify.proofs.single.singles.Statement.{statement}
 use Rattle.justify.proofs.single.singles.Tie as tie
 
 abbrev Inv-loop : tie.InvT-loop
-Inv-loop number e f part e-index f-index twins least i n a₀ a = (a ≤ n) × (any a (single number (bit rowWords part) e f i) ≡ false)
+Inv-loop number e f part e-firsts f-firsts twins least i n a₀ a = (a ≤ n) × (any a (single number (shown part) e f i) ≡ false)
 
 abbrev μ-loop : tie.MeasureT-loop
-μ-loop number e f part e-index f-index twins least i n a₀ a = n - a
+μ-loop number e f part e-firsts f-firsts twins least i n a₀ a = n - a
 
 loop-holds : tie.Need-loop-holds Inv-loop μ-loop
 loop-holds c = (search needs, any-none _)

@@ -1,4 +1,4 @@
--- `justify::release::unmatched` meets its contract. The loop's invariant: x breaks 28 with no action before y.
+-- `justify::given::unmatched` meets its contract. The loop's invariant: x breaks 28 with no action before y.
 use Prim.Native.Nat.{ℕ, _-_, _<_, _≤_}
 use native.Mathlib.Nat.{eq-or-lt-of-le}
 use native.Mathlib.Omega.{arith}
@@ -6,18 +6,17 @@ use mathlib.Core.Path.{_≡_, sym, _∙_}
 use mathlib.Core.Bool.{false}
 use mathlib.Core.Logic.{⊎-elim}
 use borrow.Author.Needs.{needs}
-use Rattle.model.specs.Limits.{rowWords}
 use Rattle.model.specs.Search.{none}
-use Rattle.model.specs.WorkArea.{bit}
+use Rattle.model.specs.WorkArea.{shown}
 use Rattle.model.specs.Justified.{broken28}
 use Rattle.justify.proofs.Search.{nowhere}
 use Rattle.justify.proofs.Names.{first-none}
 use Rattle.justify.proofs.Lead.{by-lead28, idle28, passed28}
-use Rattle.justify.proofs.release.unmatched.Statement.{statement}
-use Rattle.justify.proofs.release.unmatched.Tie as tie
+use Rattle.justify.proofs.given.unmatched.Statement.{statement}
+use Rattle.justify.proofs.given.unmatched.Tie as tie
 
 abbrev Inv-loop : tie.InvT-loop
-Inv-loop r f part heard new i x n k y₀ y = (y ≤ n) × ((b : ℕ) → b < y → broken28 (bit rowWords part) r i x b ≡ false)
+Inv-loop r f part heard new i x n k y₀ y = (y ≤ n) × ((b : ℕ) → b < y → broken28 (shown part) r i x b ≡ false)
 
 abbrev μ-loop : tie.MeasureT-loop
 μ-loop r f part heard new i x n k y₀ y = n - y

@@ -1,4 +1,4 @@
--- `justify::found::least` meets its contract: the entries are found for the actions before a.
+-- `justify::found::least_commits` meets its contract: the entries are found for the actions before a.
 use Prim.Native.Nat.{_<_, _≤_, _-_}
 use denote.Ref.{now}
 use Rattle.model.specs.Layout.{size}
@@ -11,8 +11,8 @@ use Rattle.model.specs.Limits.{maxActions}
 use Rattle.model.specs.Justified.{twin}
 use Rattle.justify.specs.Found.{Least}
 use Rattle.justify.proofs.Least.{twin-below, least-none, least-skip, least-put}
-use Rattle.justify.proofs.found.least.Statement.{statement}
-use Rattle.justify.proofs.found.least.Tie as tie
+use Rattle.justify.proofs.found.least_commits.Statement.{statement}
+use Rattle.justify.proofs.found.least_commits.Tie as tie
 
 abbrev Inv-loop : tie.InvT-loop
 Inv-loop e index n t₀ a₀ t a = (a ≤ n) × (length t ≡ maxActions) × Least e t a
@@ -56,8 +56,8 @@ returns c =
     let e : c .before .loop .a ≡ c .before .before .size .result = omega arith in
     rw (← (c .before .before .size .ensures), ← e) (c .before .loop .inv .2)
 
-pub least-spec : {M : Type 1} → statement M
-least-spec =
+pub least-commits-spec : {M : Type 1} → statement M
+least-commits-spec =
     tie.close
     (tie.spec
     Inv-loop

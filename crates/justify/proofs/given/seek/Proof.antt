@@ -1,4 +1,4 @@
--- `justify::release::seek` meets its contract: k stands at none of the entries before y.
+-- `justify::given::seek` meets its contract: k stands at none of the entries before y.
 use Prim.Native.Nat.{ℕ, _-_, _<_, _≤_}
 use native.Mathlib.Nat.{eq-or-lt-of-le}
 use native.Mathlib.Omega.{arith}
@@ -6,8 +6,8 @@ use mathlib.Core.Path.{_≡_}
 use mathlib.Core.Logic.{⊎-elim}
 use lib.ListN.{getD}
 use borrow.Author.Needs.{needs}
-use Rattle.justify.proofs.release.seek.Statement.{statement}
-use Rattle.justify.proofs.release.seek.Tie as tie
+use Rattle.justify.proofs.given.seek.Statement.{statement}
+use Rattle.justify.proofs.given.seek.Tie as tie
 
 abbrev Inv-loop : tie.InvT-loop
 Inv-loop t k from n y₀ y = (from ≤ y) × (y ≤ n) × ((b : ℕ) → from ≤ b → b < y → getD t b 0 ≡ k → ⊥)

@@ -1,7 +1,7 @@
--- `justify::judge` meets its contract: what the rules are asked with is found.
+-- `justify::with_tables` meets its contract: what the rules are asked with is found.
 use borrow.Author.Needs.{needs}
-use Rattle.justify.proofs.judge.Statement.{statement}
-use Rattle.justify.proofs.judge.Tie as tie
+use Rattle.justify.proofs.with_tables.Statement.{statement}
+use Rattle.justify.proofs.with_tables.Tie as tie
 
 in-order-requires : tie.Need-in-order-requires
 in-order-requires c κs =
@@ -16,8 +16,8 @@ in-order-requires c κs =
       },
     )
 
-pub judge-spec : {M : Type 1} → statement M
-judge-spec =
+pub with-tables-spec : {M : Type 1} → statement M
+with-tables-spec =
     tie.close
     (tie.spec
     (λ c κs. search needs)

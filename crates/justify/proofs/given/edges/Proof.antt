@@ -1,24 +1,23 @@
--- `justify::release::edges` meets its contract. The loop's invariant: no action before x breaks 28 with any.
+-- `justify::given::edges` meets its contract. The loop's invariant: no action before x breaks 28 with any.
 use Prim.Native.Nat.{_≤_, _-_}
 use native.Mathlib.Omega.{arith}
 use mathlib.Core.Path.{_≡_, sym, _∙_}
 use mathlib.Core.Bool.{false}
 use borrow.Author.Needs.{needs}
-use Rattle.model.specs.Limits.{rowWords}
 use Rattle.model.specs.Search.{any, none}
-use Rattle.model.specs.WorkArea.{bit}
+use Rattle.model.specs.WorkArea.{shown}
 use Rattle.model.specs.Justified.{broken28}
 use Rattle.model.proofs.Search.{any-none, any-pass}
 use Rattle.model.proofs.Answers.{rule₂-none, rule₂-at}
 use Rattle.justify.proofs.Names.{none-holds}
-use Rattle.justify.proofs.release.edges.Statement.{statement}
-use Rattle.justify.proofs.release.edges.Tie as tie
+use Rattle.justify.proofs.given.edges.Statement.{statement}
+use Rattle.justify.proofs.given.edges.Tie as tie
 
 abbrev Inv-loop : tie.InvT-loop
-Inv-loop r e f part e-index f-index least i n heard new x₀ x = (x ≤ n) × (any x (λ a. any n (broken28 (bit rowWords part) r i a)) ≡ false)
+Inv-loop r e f part e-firsts f-firsts least i n heard new x₀ x = (x ≤ n) × (any x (λ a. any n (broken28 (shown part) r i a)) ≡ false)
 
 abbrev μ-loop : tie.MeasureT-loop
-μ-loop r e f part e-index f-index least i n heard new x₀ x = n - x
+μ-loop r e f part e-firsts f-firsts least i n heard new x₀ x = n - x
 
 table-requires : tie.Need-table-requires Inv-loop μ-loop
 table-requires c κs = let pre = c .before .before .before .before .before .pre in (rw (c .size .ensures) (pre .0 .few-own), pre .2)

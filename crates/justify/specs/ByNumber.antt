@@ -2,20 +2,13 @@
 use Prim.Native.Nat.{ℕ, _<_, _≤_}
 use mathlib.Core.Path.{_≡_}
 use mathlib.Core.List.{List}
-use mathlib.Core.Bool.{Bool, true, false, cond, _&&_, _||_}
+use mathlib.Core.Bool.{Bool, cond, _||_}
 use lib.ListN.{getD}
 use lib.Dec.{eqb, ltb, leb}
 use Rattle.model.specs.declared.Answer.{Answer}
-use Rattle.model.specs.Limits.{maxActions}
-use Rattle.model.specs.Search.{any}
 use Rattle.model.specs.Answers.{rule, rule₂}
-use Rattle.model.specs.Layout.{section, size, ident, thread, kind, target}
+use Rattle.model.specs.Layout.{size}
 use Rattle.model.specs.Justified.{just-one, before, broken21, broken24, broken25, broken26, broken27, broken28, broken29}
-
--- x of f has a's identifier, thread, kind and target
-unfoldable pub alike : List ℕ → List ℕ → ℕ → ℕ → Bool
-alike e f a x =
-    eqb (ident f x) (ident e a) && eqb (thread f x) (thread e a) && eqb (kind f x) (kind e a) && eqb (target f x) (target e a)
 
 -- the rules of one action
 unfoldable pub single : ℕ → (ℕ → ℕ → Bool) → List ℕ → List ℕ → ℕ → ℕ → Bool
@@ -44,22 +37,12 @@ span N e f = cond (ltb N 26) (size e) (size f)
 abbrev pub names-two : ℕ → Bool
 names-two N = eqb N 22 || eqb N 23 || leb 28 N
 
-unfoldable pub numbered : ℕ → (ℕ → ℕ → Bool) → (ℕ → ℕ → Bool) → List ℕ → List ℕ → List ℕ → ℕ → Answer
-numbered N g h r e f i =
+unfoldable pub by-number : ℕ → (ℕ → ℕ → Bool) → (ℕ → ℕ → Bool) → List ℕ → List ℕ → List ℕ → ℕ → Answer
+by-number N g h r e f i =
     cond (names-two N) (rule₂ N i (span N e f) (paired N g h r e f i)) (rule N i (span N e f) (single N h e f i))
-
--- a is the first position below n at which p holds; n where there is none
-pub record First (n : ℕ) (p : ℕ → Bool) (a : ℕ) : Type 0 where
-  pub within : a ≤ n
-  pub none-before : any a p ≡ false
-  pub holds : a < n → p a ≡ true
 
 -- y is the first position from `from` on, below n, at which k stands in t; n where there is none
 pub record Next (t : List ℕ) (k from n y : ℕ) : Type 0 where
   pub onward : from ≤ y
   pub within : y ≤ n
   pub others : (b : ℕ) → from ≤ b → b < y → getD t b 0 ≡ k → ⊥
-
--- sections 0 and i are within the limit
-unfoldable pub within-limit : List ℕ → ℕ → Bool
-within-limit r i = leb (size (section r 0)) maxActions && leb (size (section r i)) maxActions

@@ -1,26 +1,25 @@
--- `justify::pair::row` meets its contract: x breaks the rule with no action before y, and where it is idle with none.
+-- `justify::pair::first_with` meets its contract: x breaks the rule with no action before y, and where it is idle with none.
 use Prim.Native.Nat.{_<_, _≤_, _-_}
 use native.Mathlib.Omega.{arith}
 use mathlib.Core.Path.{_≡_}
 use mathlib.Core.Bool.{false}
 use borrow.Author.Needs.{needs}
-use Rattle.model.specs.Limits.{rowWords}
 use Rattle.model.specs.Search.{any, none}
-use Rattle.model.specs.WorkArea.{bit}
+use Rattle.model.specs.WorkArea.{shown}
 use Rattle.model.proofs.Search.{any-none, any-pass}
-use Rattle.justify.specs.Numbered.{parted}
+use Rattle.justify.specs.ByNumber.{parted}
 use Rattle.justify.proofs.Search.{nowhere}
 use Rattle.justify.proofs.Names.{first-none}
 use Rattle.justify.proofs.Idle.{none-breaks}
-use Rattle.justify.proofs.pair.row.Statement.{statement}
-use Rattle.justify.proofs.pair.row.Tie as tie
+use Rattle.justify.proofs.pair.first_with.Statement.{statement}
+use Rattle.justify.proofs.pair.first_with.Tie as tie
 
 abbrev Inv-loop : tie.InvT-loop
-Inv-loop number e f e-part f-part index twins least mask calm i n x y₀ y =
-    (y ≤ n) × (any y (parted number (bit rowWords e-part) (bit rowWords f-part) e f i x) ≡ false)
+Inv-loop number e f e-part f-part firsts twins least mask calm i n x y₀ y =
+    (y ≤ n) × (any y (parted number (shown e-part) (shown f-part) e f i x) ≡ false)
 
 abbrev μ-loop : tie.MeasureT-loop
-μ-loop number e f e-part f-part index twins least mask calm i n x y₀ y = n - y
+μ-loop number e f e-part f-part firsts twins least mask calm i n x y₀ y = n - y
 
 pair-requires : tie.Need-pair-requires Inv-loop μ-loop
 pair-requires c κs =
@@ -57,8 +56,8 @@ returns-3 c =
     let e : c .before .loop .y ≡ c .before .before .before .before .before .before .before .before .args .n = omega arith in
     first-none _ _ (rw e at (c .before .loop .inv .1))
 
-pub row-spec : {M : Type 1} → statement M
-row-spec =
+pub first-with-spec : {M : Type 1} → statement M
+first-with-spec =
     tie.close
     (tie.spec
     Inv-loop

@@ -5,15 +5,19 @@ use native.Mathlib.Omega.{arith}
 use mathlib.Core.Path.{_≡_, refl, sym, _∙_}
 use mathlib.Core.List.{List}
 use mathlib.Core.Bool.{Bool, true, false, not, _&&_, and-comm}
+use mathlib.Mathlib.Data.Bool.Basic.{eq-false-of-not-eq-true}
 use Rattle.model.specs.Limits.{maxActions}
 use Rattle.model.specs.Search.{any, none}
 use Rattle.model.specs.Layout.{section, size, ident}
+use Rattle.model.specs.Kinds.{nothing-given}
 use Rattle.model.specs.Relations.{po, sw}
 use Rattle.model.specs.WorkArea.{shown}
 use Rattle.model.specs.Justified.{new, through, sufficient, missing, broken28}
 use Rattle.model.proofs.Search.{any-same}
 use Rattle.justify.specs.Row.{shares}
 use Rattle.justify.specs.Found.{Heard, stage-of, fresh}
+use Rattle.relations.specs.Objects.{given, taken, key}
+use Rattle.relations.proofs.Objects.{sw-key, sw-nothing-given}
 use Rattle.edges.specs.Edge.{loose}
 use Rattle.justify.specs.ByNumber.{Next}
 use Rattle.justify.proofs.Words.{shares-masked}
@@ -49,10 +53,10 @@ module _ (r f : List ℕ) (i : ℕ) (heard mask part : List ℕ) (h : Heard r f 
 
   -- x is asked only about what it gives
   apart28 : (x y : ℕ) → (key (given f x) ≡ key (taken f y) → ⊥) → broken28 hb r i x y ≡ false
-  apart28 x y n = by-lead28 x y ∙ rw (eq-false-of-not-eq-true (λ s. n (one-key f x y s)))
+  apart28 x y n = by-lead28 x y ∙ rw (eq-false-of-not-eq-true (λ s. n (sw-key f x y s)))
 
   pub idle28 : (x y : ℕ) → given f x .class ≡ nothing-given → broken28 hb r i x y ≡ false
-  idle28 x y n = by-lead28 x y ∙ rw (gives-nothing f x y n)
+  idle28 x y n = by-lead28 x y ∙ rw (sw-nothing-given f x y n)
 
   -- what is passed over up to the next action that takes what x gives
   pub passed28 : (x from y : ℕ) → Next heard (key (given f x)) from (size f) y → ((b : ℕ) → b < from → broken28 hb r i x b ≡ false) → (b : ℕ) → b < y → broken28 hb r i x b ≡ false

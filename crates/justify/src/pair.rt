@@ -86,7 +86,7 @@ fn broken29(
     requires { ⌜ Staged (now e) (now firsts) (now least) ⌝ }
     ensures { λ r. ⌜ r ≡ broken29 (shown (now (part .entry))) (now (e .entry)) (now (f .entry)) i x y ⌝ }
 {
-    if before(part, x, y) {
+    if rows::before(part, x, y) {
         if outside(e, f, firsts, least, i, x) {
             return stage(e, firsts, least, ident(f, y)) <= i as u16;
         }

@@ -6,7 +6,7 @@ use Rattle.justify.proofs.by_number.Statement.{statement}
 use Rattle.justify.proofs.by_number.Tie as tie
 
 edges-requires : tie.Need-edges-requires
-edges-requires c κs = let pre = c .before .before .before .before .before .before .pre in (pre .0, pre .1 .staged, pre .1 .f-firsts-held)
+edges-requires c κs = let pre = c .before .before .before .before .before .before .pre in (pre .0, pre .1 .staged, pre .1 .f-idents)
 
 pairs-requires : tie.Need-pairs-requires
 pairs-requires c κs = let asked = c .before .before .before .before .before .before .before .before .before .pre .1 in ((asked .staged, asked .twins-held), c .before .before .span .ensures)

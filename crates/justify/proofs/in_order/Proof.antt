@@ -36,8 +36,9 @@ loop-again c =
 
 returns-2 : tie.Need-returns-2 Inv-loop μ-loop
 returns-2 c =
-    let e : c .before .loop .k ≡ 9 = omega arith in
-    rw (in-turn, ← (c .before .before .before .before .before .before .before .pre .0 .first-section), ← (c .before .before .before .before .before .before .before .pre .0 .own-section)) (sym (rw e at (c .before .loop .inv .1)))
+    let e : c .before .before .loop .k ≡ 9 = omega arith in
+    let sections = c .before .before .before .before .before .before .before .before .pre .0 in
+    rw (in-turn, ← (sections .first-section), ← (sections .own-section)) (c .numbered .ensures ∙ sym (rw e at (c .before .before .loop .inv .1)))
 
 pub in-order-spec : {M : Type 1} → statement M
 in-order-spec =
@@ -52,4 +53,5 @@ in-order-spec =
     (λ c. search needs)
     (λ c. search needs)
     loop-again
+    (λ c κs. search needs)
     returns-2)

@@ -3,15 +3,26 @@ use borrow.Author.Needs.{needs}
 use Rattle.justify.proofs.with_tables.Statement.{statement}
 use Rattle.justify.proofs.with_tables.Tie as tie
 
+table-requires : tie.Need-table-requires
+table-requires c κs =
+    let found = c .before .before in
+    let pre = found .before .before .before .before .before .before .before .pre in
+    (rw (c .size .ensures) (pre .2), record { few = pre .3; firsts-held = found .firsts2 .ensures })
+
+least-commits-requires : tie.Need-least-commits-requires
+least-commits-requires c κs =
+    let found = c .before .before .before .before .before in
+    record { few = found .before .before .before .before .before .before .pre .2; firsts-held = found .firsts .ensures }
+
 in-order-requires : tie.Need-in-order-requires
 in-order-requires c κs =
     let twins = c .before .before .before .before .before .before in
-    let indexed = twins .before .before .before in
-    let pre = c .before .before .before .before .before .before .before .before .before .before .before .before .before .before .before .before .pre in (
-      record { first-section = pre .0; own-section = pre .1; few-own = pre .3 },
+    let found = twins .before .before .before in
+    let pre = found .before .before .before .before .before .before .before .pre in (
+      record { first-section = pre .0; own-section = pre .1 },
       record {
-        staged = record { few = pre .2; indexed = indexed .before .index .ensures; least-held = c .before .before .before .before .least .ensures };
-        f-indexed = indexed .index2 .ensures;
+        staged = record { idents = record { few = pre .2; firsts-held = found .before .firsts .ensures }; least-held = c .before .before .before .before .least-commits .ensures };
+        f-idents = record { few = pre .3; firsts-held = found .firsts2 .ensures };
         twins-held = rw (twins .before .size .ensures) at (twins .table .ensures);
       },
     )
@@ -23,7 +34,7 @@ with-tables-spec =
     (λ c κs. search needs)
     (λ c κs. search needs)
     (λ c κs. search needs)
-    (λ c κs. search needs)
-    (λ c κs. search needs)
+    table-requires
+    least-commits-requires
     in-order-requires
     (λ c. search needs))

@@ -1,15 +1,13 @@
 -- `justify::pair::first_with` meets its contract: x breaks the rule with no action before y, and where it is idle with none.
 use Prim.Native.Nat.{_<_, _≤_, _-_}
 use native.Mathlib.Omega.{arith}
-use mathlib.Core.Path.{_≡_}
+use mathlib.Core.Path.{_≡_, sym}
 use mathlib.Core.Bool.{false}
 use borrow.Author.Needs.{needs}
 use Rattle.model.specs.Search.{any, none}
 use Rattle.model.specs.WorkArea.{shown}
-use Rattle.model.proofs.Search.{any-none, any-pass}
+use Rattle.model.proofs.Search.{any-none, any-pass, any-never, first-none, first-at}
 use Rattle.justify.specs.ByNumber.{parted}
-use Rattle.justify.proofs.Search.{nowhere}
-use Rattle.justify.proofs.Names.{first-none}
 use Rattle.justify.proofs.Idle.{none-breaks}
 use Rattle.justify.proofs.pair.first_with.Statement.{statement}
 use Rattle.justify.proofs.pair.first_with.Tie as tie
@@ -32,20 +30,17 @@ returns c =
     let pre = start .pre in
     let l : start .args .i < none = omega arith in
     let n = pre .1 .1 .0 in
-    first-none _ _
-    (nowhere _ _
-    (λ y m. none-breaks _ _ _ _ _ _ _ _ (pre .0 .0 .few) (pre .1 .0) l _ y (rw (c .before .idle .ensures) at (c .if1 .taken)) (rw n at (pre .1 .1 .1)) (rw n at m)))
+    sym
+    (first-none _ _
+    (any-never _ _
+    (λ y m. none-breaks _ _ _ _ _ _ _ _ (pre .0 .0 .idents .few) (pre .1 .0) l _ y (rw (c .before .idle .ensures) at (c .if1 .taken)) (rw n at (pre .1 .1 .1)) (rw n at m))))
 
 loop-holds : tie.Need-loop-holds Inv-loop μ-loop
 loop-holds c = (search needs, any-none _)
 
 returns-2 : tie.Need-returns-2 Inv-loop μ-loop
 returns-2 c =
-    record {
-      within = search needs;
-      none-before = c .before .before .before .loop .inv .1;
-      holds = λ l. rw (c .before .pair .ensures) at (c .if2 .taken);
-    }
+    sym (first-at _ _ _ (c .before .before .loop-test .taken) (c .before .before .before .loop .inv .1) (rw (c .before .pair .ensures) at (c .if2 .taken)))
 
 loop-again : tie.Need-loop-again Inv-loop μ-loop
 loop-again c =
@@ -54,7 +49,7 @@ loop-again c =
 returns-3 : tie.Need-returns-3 Inv-loop μ-loop
 returns-3 c =
     let e : c .before .loop .y ≡ c .before .before .before .before .before .before .before .before .args .n = omega arith in
-    first-none _ _ (rw e at (c .before .loop .inv .1))
+    sym (first-none _ _ (rw e at (c .before .loop .inv .1)))
 
 pub first-with-spec : {M : Type 1} → statement M
 first-with-spec =

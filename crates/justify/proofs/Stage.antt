@@ -56,21 +56,21 @@ module _ (e : List ℕ) (d i : ℕ) where
 
 -- The rules that ask for membership, by the stages
 module _ (e f : List ℕ) (i : ℕ) (l : i < none) where
-  earlier : i - 1 < none
-  earlier = omega arith
+  less : i - 1 < none
+  less = omega arith
 
   pub new-fresh : (x : ℕ) → new e f i x ≡ fresh (stage-of e f x) i
   unfolding new
-  new-fresh x = rw (in-C e (ident f x) i l, in-C e (ident f x) (i - 1) earlier)
+  new-fresh x = rw (in-C e (ident f x) i l, in-C e (ident f x) (i - 1) less)
 
   pub by-stage26 : (h : ℕ → ℕ → Bool) (x : ℕ) → broken26 h e f i x ≡ read f x && not (leb (stage-of e f x) (i - 1)) && not (seen-hb h f x x)
   unfolding broken26
-  by-stage26 h x = rw (in-C e (ident f x) (i - 1) earlier)
+  by-stage26 h x = rw (in-C e (ident f x) (i - 1) less)
 
   pub by-stage27 : (x : ℕ) → broken27 e f i x ≡ read f x && fresh (stage-of e f x) i && not (leb (stage e (seen e (twin-of f e x))) (i - 1) && leb (stage e (seen f x)) (i - 1))
   unfolding broken27
   by-stage27 x =
-      rw (new-fresh x, in-C e (seen e (twin-of f e x)) (i - 1) earlier, in-C e (seen f x) (i - 1) earlier)
+      rw (new-fresh x, in-C e (seen e (twin-of f e x)) (i - 1) less, in-C e (seen f x) (i - 1) less)
 
   pub outside-stage : (x : ℕ) → outside e f i x ≡ eqb (kind f x) 11 && not (leb (stage-of e f x) i)
   unfolding outside

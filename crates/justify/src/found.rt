@@ -37,7 +37,13 @@ fn entry(own: bool, e: &[u8], f: &[u8], firsts: &[u16; KEYS], a: u16) -> u16
 }
 
 // The entries of the first n actions.
-pub(crate) fn table(own: bool, e: &[u8], f: &[u8], firsts: &[u16; KEYS], n: u16) -> [u16; MAX_ACTIONS]
+pub(crate) fn table(
+    own: bool,
+    e: &[u8],
+    f: &[u8],
+    firsts: &[u16; KEYS],
+    n: u16,
+) -> [u16; MAX_ACTIONS]
     requires { ⌜ (n ≤ maxActions) × Idents (now f) (now firsts) ⌝ }
     ensures { λ t. ⌜ Holds t n (entry own (now (e .entry)) (now (f .entry))) ⌝ }
 {

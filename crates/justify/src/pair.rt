@@ -28,7 +28,7 @@ use model::ROW_WORDS;
 use positions::firsts::KEYS;
 
 // Whether a's place is below b's.
-fn earlier(x: &[u8], a: u16, b: u16) -> bool
+fn lower_place(x: &[u8], a: u16, b: u16) -> bool
     ensures { λ r. ⌜ r ≡ before (now (x .entry)) a b ⌝ }
 {
     place(x, a) < place(x, b)
@@ -55,14 +55,21 @@ fn apart(
             if number == 22 {
                 return rows::before(e_part, a, b) != rows::before(f_part, x, y);
             }
-            return earlier(e, a, b) != earlier(f, x, y);
+            return lower_place(e, a, b) != lower_place(f, x, y);
         }
     }
     false
 }
 
 // Whether x is external and outside C_i.
-fn outside(e: &[u8], f: &[u8], firsts: &[u16; KEYS], least: &[u16; MAX_ACTIONS], i: u8, x: u16) -> bool
+fn outside(
+    e: &[u8],
+    f: &[u8],
+    firsts: &[u16; KEYS],
+    least: &[u16; MAX_ACTIONS],
+    i: u8,
+    x: u16,
+) -> bool
     requires { ⌜ Staged (now e) (now firsts) (now least) ⌝ }
     ensures { λ r. ⌜ r ≡ outside (now (e .entry)) (now (f .entry)) i x ⌝ }
 {
@@ -226,7 +233,19 @@ fn first_with(
     requires { ⌜ (n ≡ span number (now e) (now f)) × (x < n) ⌝ }
     ensures { λ y. ⌜ y ≡ first n (parted number (shown (now («e_part» .entry))) (shown (now («f_part» .entry))) (now (e .entry)) (now (f .entry)) i x) ⌝ }
 {
-    if idle(number, e, f, e_part, f_part, firsts, least, mask, calm, i, x) {
+    if idle(
+        number,
+        e,
+        f,
+        e_part,
+        f_part,
+        firsts,
+        least,
+        mask,
+        calm,
+        i,
+        x,
+    ) {
         return n;
     }
     for y in 0..n {

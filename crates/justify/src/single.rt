@@ -143,7 +143,14 @@ fn broken26(
 }
 
 // C_0 is empty: at i = 1 the initial write is not in C_(i-1).
-fn broken27(e: &[u8], f: &[u8], firsts: &[u16; KEYS], least: &[u16; MAX_ACTIONS], i: u8, x: u16) -> bool
+fn broken27(
+    e: &[u8],
+    f: &[u8],
+    firsts: &[u16; KEYS],
+    least: &[u16; MAX_ACTIONS],
+    i: u8,
+    x: u16,
+) -> bool
     requires { ⌜ Staged (now e) (now firsts) (now least) ⌝ }
     ensures { λ r. ⌜ r ≡ broken27 (now (e .entry)) (now (f .entry)) i x ⌝ }
 {

@@ -2,15 +2,16 @@
 use Prim.Native.Nat.{ℕ, _-_, _<_, _≤_}
 use native.Mathlib.Nat.{eq-or-lt-of-le}
 use native.Mathlib.Omega.{arith}
-use mathlib.Core.Path.{_≡_, sym, _∙_}
+use denote.Ref.{now}
+use mathlib.Core.Path.{_≡_, sym, ap, _∙_}
 use mathlib.Core.Bool.{false}
 use mathlib.Core.Logic.{⊎-elim}
 use borrow.Author.Needs.{needs}
 use Rattle.model.specs.Search.{none}
 use Rattle.model.specs.WorkArea.{shown}
 use Rattle.model.specs.Justified.{broken28}
-use Rattle.justify.proofs.Search.{nowhere}
-use Rattle.justify.proofs.Names.{first-none}
+use Rattle.model.proofs.Search.{any-never, first-none, first-at}
+use Rattle.relations.specs.Objects.{given, key}
 use Rattle.justify.proofs.Lead.{by-lead28, idle28, passed28}
 use Rattle.justify.proofs.given.unmatched.Statement.{statement}
 use Rattle.justify.proofs.given.unmatched.Tie as tie
@@ -21,37 +22,57 @@ Inv-loop r f part heard new i x n k y₀ y = (y ≤ n) × ((b : ℕ) → b < y �
 abbrev μ-loop : tie.MeasureT-loop
 μ-loop r f part heard new i x n k y₀ y = n - y
 
+-- k is the key of what x gives
+gives : (c : tie.After-key Inv-loop μ-loop) → c .key .result ≡ key (given (now (c .before .before .before .before .before .before .before .before .args .f)) (c .before .before .before .before .before .before .before .before .args .x))
+gives c = c .key .ensures ∙ ap key (c .before .before .before .given .ensures)
+
 returns : tie.Need-returns Inv-loop μ-loop
 returns c =
-    let start = c .before .before .before .before .before .before in
+    let size = c .before .before .before in
+    let start = size .before .before .before .before in
     let l : start .args .i < none = omega arith in
-    rw (c .before .before .size .ensures)
-    (first-none _ _ (nowhere _ _ (λ b m. idle28 _ _ _ _ _ _ (start .pre) l _ b (sym (c .before .released .ensures) ∙ c .if1 .taken))))
+    rw (size .size .ensures)
+    (sym (first-none _ _ (any-never _ _ (λ b m. idle28 _ _ _ _ _ _ (start .pre) l _ b (rw (c .before .before .given .ensures) at (c .if1 .taken))))))
+
+seek-requires : tie.Need-seek-requires Inv-loop μ-loop
+seek-requires c κs =
+    let size = c .before .before .before .before in
+    (omega arith, rw (size .size .ensures) (size .before .before .before .before .pre .few-own))
 
 loop-holds : tie.Need-loop-holds Inv-loop μ-loop
 loop-holds c =
-    let start = c .before .before .before .before .before .before .before in
+    let size = c .before .before .before .before .before in
+    let start = size .before .before .before .before in
     let l : start .args .i < none = omega arith in
-    let next = rw (c .before .before .released .ensures, c .before .before .before .size .ensures) at (c .seek .ensures) in
+    let next = rw (gives (c .before), size .size .ensures) at (c .seek .ensures) in
     (c .seek .ensures .within, passed28 _ _ _ _ _ _ (start .pre) l _ _ _ next (λ b m. absurd (let z : ⊥ = omega arith in z)))
 
 returns-2 : tie.Need-returns-2 Inv-loop μ-loop
 returns-2 c =
     let at = c .before .before .before in
-    let start = c .before .before .before .before .before .before .before .before .before .before .before in
+    let size = at .before .before .before .before .before .before in
+    let start = size .before .before .before .before in
     let l : start .args .i < none = omega arith in
-    record {
-      within = rw (← (c .before .before .before .before .before .before .before .size .ensures)) (at .loop .inv .0);
-      none-before = nowhere _ _ (at .loop .inv .1);
-      holds = λ m. by-lead28 _ _ _ _ _ _ (start .pre) l _ _ ∙ (rw (c .before .broken28 .ensures) at (c .if2 .taken));
-    }
+    rw (← (size .size .ensures))
+    (sym
+    (first-at _ _ _ (c .before .before .loop-test .taken) (any-never _ _ (at .loop .inv .1))
+    (by-lead28 _ _ _ _ _ _ (start .pre) l _ _ ∙ (rw (c .before .broken28 .ensures) at (c .if2 .taken)))))
+
+seek-requires-2 : tie.Need-seek-requires-2 Inv-loop μ-loop
+seek-requires-2 c κs =
+    let size = c .before .before .before .before .before .before .before .before .before in
+    (omega arith, rw (size .size .ensures) (size .before .before .before .before .pre .few-own))
+
+loop-less : tie.Need-loop-less Inv-loop μ-loop
+loop-less c = omega (arith, c .seek2 .ensures .onward)
 
 loop-again : tie.Need-loop-again Inv-loop μ-loop
 loop-again c =
     let at = c .before .before .before .before in
-    let start = c .before .before .before .before .before .before .before .before .before .before .before .before in
+    let size = at .before .before .before .before .before .before in
+    let start = size .before .before .before .before in
     let l : start .args .i < none = omega arith in
-    let next = rw (c .before .before .before .before .before .before .before .released .ensures, c .before .before .before .before .before .before .before .before .size .ensures) at (c .seek2 .ensures) in
+    let next = rw (gives (at .before .before), size .size .ensures) at (c .seek2 .ensures) in
     let here = by-lead28 _ _ _ _ _ _ (start .pre) l _ _ ∙ (rw (c .before .before .broken28 .ensures) at (c .before .if2 .left)) in (
       c .seek2 .ensures .within,
       passed28 _ _ _ _ _ _ (start .pre) l _ _ _ next
@@ -62,17 +83,9 @@ loop-again c =
 
 returns-3 : tie.Need-returns-3 Inv-loop μ-loop
 returns-3 c =
-    let e : c .before .loop .y ≡ c .before .before .before .before .before .size .result = omega arith in
-    rw (c .before .before .before .before .before .size .ensures) (first-none _ _ (nowhere _ _ (rw (e ∙ c .before .before .before .before .before .size .ensures) at (c .before .loop .inv .1))))
-
-seek-requires : tie.Need-seek-requires Inv-loop μ-loop
-seek-requires c κs = (omega arith, rw (c .before .before .size .ensures) (c .before .before .before .before .before .before .pre .few-own))
-
-seek-requires-2 : tie.Need-seek-requires-2 Inv-loop μ-loop
-seek-requires-2 c κs = (omega arith, rw (c .before .before .before .before .before .before .before .size .ensures) (c .before .before .before .before .before .before .before .before .before .before .before .pre .few-own))
-
-loop-less : tie.Need-loop-less Inv-loop μ-loop
-loop-less c = omega (arith, c .seek2 .ensures .onward)
+    let n = c .before .before .before .before .before .before .before .size in
+    let e : c .before .loop .y ≡ n .result = omega arith in
+    rw (n .ensures) (sym (first-none _ _ (any-never _ _ (rw (e ∙ n .ensures) at (c .before .loop .inv .1)))))
 
 pub unmatched-spec : {M : Type 1} → statement M
 unmatched-spec =
@@ -83,6 +96,7 @@ unmatched-spec =
     (λ c κs. search needs)
     (λ c κs. search needs)
     returns
+    (λ c κs. search needs)
     seek-requires
     loop-holds
     (λ c κs. search needs)

@@ -30,8 +30,8 @@ returns-2 c =
       ← (c .before .before .before .before .committed2 .ensures),
       c .before .before .before .if2 .taken,
       ne-eqb _ _ (c .before .before .if3 .left),
-      c .before .earlier .ensures,
-      c .earlier2 .ensures,
+      c .before .lower-place .ensures,
+      c .lower-place2 .ensures,
       c .before .before .before .before .before .before .before .before .before .before .before .pre .0,
       c .before .before .before .before .before .before .before .before .before .before .before .pre .1,
     )

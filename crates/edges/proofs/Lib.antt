@@ -1,4 +1,3 @@
--- The laws of edges, from the ends to what they release and acquire.
+-- The laws of edges.
 pub mod Edge
-pub mod Release
 pub mod Unique

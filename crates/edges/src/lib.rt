@@ -1,73 +1,32 @@
-// What 28 asks of an edge of a section: what its ends release and acquire, and whether it is one that must stand in other sections and doesn't.
+// What 28 asks of an edge of a section: whether it is one that must stand in other sections and doesn't.
 ghost use mathlib.Core.Path.{_≡_};
 ghost use mathlib.Core.Bool.{_&&_, _||_};
-ghost use Prim.Native.Nat.{_+_, _*_, _<_};
 ghost use lib.Dec.{eqb, leb};
-ghost use Rattle.model.specs.Limits.{rowWords};
 ghost use Rattle.model.specs.Search.{any};
 ghost use Rattle.model.specs.Layout.{section, size, ident};
-ghost use Rattle.model.specs.WorkArea.{bit};
-ghost use Rattle.model.specs.Justified.{«sw#», missing};
-ghost use Rattle.edges.specs.Edge.{through, meets, joins, lacks, loose, acquired, released};
+ghost use Rattle.model.specs.WorkArea.{shown};
+ghost use Rattle.model.specs.Justified.{«sw-to», joins, «sw#», through, lacks, missing};
+ghost use Rattle.edges.specs.Edge.{loose};
 use fields::ident;
 use fields::justifying;
-use fields::kind;
 use fields::size;
-use fields::target;
-use fields::thread;
-use hb::po;
-use hb::sw;
+use relations::po;
+use relations::sw;
 
-// A target or thread, with the kind that acquires it.
-fn thing(kind: u16, object: u8) -> u16
-    requires { ⌜ kind < 256 ⌝ }
-    ensures { λ k. ⌜ k ≡ 256 * kind + object ⌝ }
-{
-    256 * kind + object as u16
-}
-
-// What y acquires; 0 for nothing.
-pub fn acquired(f: &[u8], y: u16) -> u16
-    ensures { λ k. ⌜ k ≡ acquired (now (f .entry)) y ⌝ }
-{
-    let k = kind(f, y);
-    match k {
-        3 => thing(3, target(f, y)),
-        5 => thing(5, target(f, y)),
-        8 => thing(8, thread(f, y)),
-        10 => thing(10, target(f, y)),
-        _ => 0,
-    }
-}
-
-// What x releases; 0 for nothing.
-pub fn released(f: &[u8], x: u16) -> u16
-    ensures { λ k. ⌜ k ≡ released (now (f .entry)) x ⌝ }
-{
-    let k = kind(f, x);
-    match k {
-        4 => thing(3, target(f, x)),
-        6 => thing(5, target(f, x)),
-        7 => thing(8, target(f, x)),
-        9 => thing(10, thread(f, x)),
-        _ => 0,
-    }
-}
-
-// Whether z stands between x and y in hb.
+// Whether z is between x and y in hb.
 fn through(part: &[u64], x: u16, y: u16, z: u16) -> bool
-    ensures { λ r. ⌜ r ≡ through (bit rowWords (now (part .entry))) x y z ⌝ }
+    ensures { λ r. ⌜ r ≡ through (shown (now (part .entry))) x y z ⌝ }
 {
-    if rows::get(part, x, z) {
-        rows::get(part, z, y)
+    if rows::before(part, x, z) {
+        rows::before(part, z, y)
     } else {
         false
     }
 }
 
-// Whether one of n actions stands between x and y in hb.
+// Whether one of n actions is between x and y in hb.
 fn between(part: &[u64], n: u16, x: u16, y: u16) -> bool
-    ensures { λ r. ⌜ r ≡ any n (through (bit rowWords (now (part .entry))) x y) ⌝ }
+    ensures { λ r. ⌜ r ≡ any n (through (shown (now (part .entry))) x y) ⌝ }
 {
     for z in 0..n {
         if through(part, x, y, z) {
@@ -78,19 +37,19 @@ fn between(part: &[u64], n: u16, x: u16, y: u16) -> bool
 }
 
 // Whether b has the identifier d, and a synchronizes with b.
-fn meets(x: &[u8], d: u16, a: u16, b: u16) -> bool
-    ensures { λ r. ⌜ r ≡ meets (now (x .entry)) d a b ⌝ }
+fn sw_to(x: &[u8], d: u16, a: u16, b: u16) -> bool
+    ensures { λ r. ⌜ r ≡ sw-to (now (x .entry)) d a b ⌝ }
 {
     if ident(x, b) == d { sw(x, a, b) } else { false }
 }
 
 // Whether a synchronizes with an action that has the identifier d.
-fn met(x: &[u8], d: u16, a: u16) -> bool
-    ensures { λ r. ⌜ r ≡ any (size (now (x .entry))) (meets (now (x .entry)) d a) ⌝ }
+fn any_sw_to(x: &[u8], d: u16, a: u16) -> bool
+    ensures { λ r. ⌜ r ≡ any (size (now (x .entry))) (sw-to (now (x .entry)) d a) ⌝ }
 {
     let n = size(x);
     for b in 0..n {
-        if meets(x, d, a, b) {
+        if sw_to(x, d, a, b) {
             return true;
         }
     }
@@ -102,7 +61,7 @@ fn joins(x: &[u8], c: u16, d: u16, a: u16) -> bool
     ensures { λ r. ⌜ r ≡ joins (now (x .entry)) c d a ⌝ }
 {
     if ident(x, a) == c {
-        met(x, d, a)
+        any_sw_to(x, d, a)
     } else {
         false
     }
@@ -110,10 +69,10 @@ fn joins(x: &[u8], c: u16, d: u16, a: u16) -> bool
 
 // Whether u and v are such actions, first and second.
 fn stands(x: &[u8], c: u16, d: u16, u: u16, v: u16) -> bool
-    ensures { λ r. ⌜ r ≡ (eqb (ident (now (x .entry)) u) c && meets (now (x .entry)) d u v) ⌝ }
+    ensures { λ r. ⌜ r ≡ (eqb (ident (now (x .entry)) u) c && sw-to (now (x .entry)) d u v) ⌝ }
 {
     if ident(x, u) == c {
-        meets(x, d, u, v)
+        sw_to(x, d, u, v)
     } else {
         false
     }
@@ -182,7 +141,7 @@ fn missing(r: &[u8], i: u8, c: u16, d: u16, u: u16, v: u16) -> bool
 
 // Whether an edge from x to y is not in program order, no action stands between, and it is missing where it must stand.
 pub fn loose(r: &[u8], f: &[u8], part: &[u64], i: u8, x: u16, y: u16) -> bool
-    ensures { λ b. ⌜ b ≡ loose (bit rowWords (now (part .entry))) (now (r .entry)) (now (f .entry)) i x y ⌝ }
+    ensures { λ b. ⌜ b ≡ loose (shown (now (part .entry))) (now (r .entry)) (now (f .entry)) i x y ⌝ }
 {
     if po(f, x, y) {
         return false;

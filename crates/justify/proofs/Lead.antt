@@ -1,23 +1,26 @@
 -- 28 by the mask of the actions in C_i outside C_(i-1).
-use Prim.Native.Nat.{ℕ, _*_, _<_}
+use Prim.Native.Nat.{ℕ, _<_}
 use native.Mathlib.Decide.{decLt}
 use native.Mathlib.Omega.{arith}
 use mathlib.Core.Path.{_≡_, refl, sym, _∙_}
 use mathlib.Core.List.{List}
 use mathlib.Core.Bool.{Bool, true, false, not, _&&_, and-comm}
-use Rattle.model.specs.Limits.{rowWords}
+use mathlib.Mathlib.Data.Bool.Basic.{eq-false-of-not-eq-true}
+use Rattle.model.specs.Limits.{maxActions}
 use Rattle.model.specs.Search.{any, none}
 use Rattle.model.specs.Layout.{section, size, ident}
+use Rattle.model.specs.Kinds.{nothing-given}
 use Rattle.model.specs.Relations.{po, sw}
-use Rattle.model.specs.WorkArea.{bit}
-use Rattle.model.specs.Justified.{new, sufficient, missing, broken28}
+use Rattle.model.specs.WorkArea.{shown}
+use Rattle.model.specs.Justified.{new, through, sufficient, missing, broken28}
 use Rattle.model.proofs.Search.{any-same}
-use Rattle.justify.specs.Row.{meets}
+use Rattle.justify.specs.Row.{shares}
 use Rattle.justify.specs.Found.{Heard, stage-of, fresh}
-use Rattle.edges.specs.Edge.{through, loose, acquired, released}
-use Rattle.edges.proofs.Release.{apart-sw, idle-sw}
-use Rattle.justify.specs.Numbered.{Next}
-use Rattle.justify.proofs.Words.{meets-masked}
+use Rattle.relations.specs.Objects.{given, taken, key}
+use Rattle.relations.proofs.Objects.{sw-key, sw-nothing-given}
+use Rattle.edges.specs.Edge.{loose}
+use Rattle.justify.specs.ByNumber.{Next}
+use Rattle.justify.proofs.Words.{shares-masked}
 use Rattle.justify.proofs.Stage.{new-fresh}
 
 -- the code tests l after s
@@ -34,29 +37,29 @@ module _ (r f : List ℕ) (i : ℕ) (heard mask part : List ℕ) (h : Heard r f 
   e = section r 0
 
   abbrev hb : ℕ → ℕ → Bool
-  hb = bit rowWords part
+  hb = shown part
 
-  leads : (y : ℕ) → any (64 * rowWords) (meets rowWords part mask y) ≡ any (size f) (λ z. hb y z && new e f i z)
+  leads : (y : ℕ) → any maxActions (shares part mask y) ≡ any (size f) (λ z. hb y z && new e f i z)
   leads y =
-      meets-masked rowWords (λ z. fresh (stage-of e f z) i) mask (size f) (h .new-held) (omega (arith, h .few-own)) part y
+      shares-masked (λ z. fresh (stage-of e f z) i) mask (size f) (h .new-held) (h .few-own) part y
       ∙ any-same (λ z. fresh (stage-of e f z) i && hb y z) (λ z. hb y z && new e f i z) (size f)
       (λ z k. rw (new-fresh e f i l z) (and-comm (fresh (stage-of e f z) i) (hb y z)))
 
-  pub by-lead28 : (x y : ℕ) → broken28 hb r i x y ≡ sw f x y && (any (64 * rowWords) (meets rowWords part mask y) && loose hb r f i x y)
-  unfolding broken28 sufficient loose through
+  pub by-lead28 : (x y : ℕ) → broken28 hb r i x y ≡ sw f x y && (any maxActions (shares part mask y) && loose hb r f i x y)
+  unfolding broken28 sufficient loose
   by-lead28 x y =
       rw (← (h .own-section), leads y)
       (regroup (sw f x y) (not (po f x y)) (not (any (size f) (through hb x y))) (any (size f) (λ z. hb y z && new e f i z)) (missing r i (ident f x) (ident f y)))
 
-  -- x is asked only about what it releases
-  pub apart28 : (x y : ℕ) → (released f x ≡ acquired f y → ⊥) → broken28 hb r i x y ≡ false
-  apart28 x y n = by-lead28 x y ∙ rw (apart-sw f x y n)
+  -- x is asked only about what it gives
+  apart28 : (x y : ℕ) → (key (given f x) ≡ key (taken f y) → ⊥) → broken28 hb r i x y ≡ false
+  apart28 x y n = by-lead28 x y ∙ rw (eq-false-of-not-eq-true (λ s. n (sw-key f x y s)))
 
-  pub idle28 : (x y : ℕ) → released f x ≡ 0 → broken28 hb r i x y ≡ false
-  idle28 x y n = by-lead28 x y ∙ rw (idle-sw f x y n)
+  pub idle28 : (x y : ℕ) → given f x .class ≡ nothing-given → broken28 hb r i x y ≡ false
+  idle28 x y n = by-lead28 x y ∙ rw (sw-nothing-given f x y n)
 
-  -- what is passed over up to the next action that acquires what x releases
-  pub passed28 : (x from y : ℕ) → Next heard (released f x) from (size f) y → ((b : ℕ) → b < from → broken28 hb r i x b ≡ false) → (b : ℕ) → b < y → broken28 hb r i x b ≡ false
+  -- what is passed over up to the next action that takes what x gives
+  pub passed28 : (x from y : ℕ) → Next heard (key (given f x)) from (size f) y → ((b : ℕ) → b < from → broken28 hb r i x b ≡ false) → (b : ℕ) → b < y → broken28 hb r i x b ≡ false
   passed28 x from y next before b m =
       elim (decLt b from) [
         | yes k ↦ before b k

@@ -12,16 +12,22 @@ use lib.Dec.{eqb}
 use borrow.Author.Tests.{eq-eqb, ne-eqb, eqb-true, lt-ltb, le-ltb}
 use Rattle.model.specs.Search.{any, none}
 use Rattle.model.specs.Layout.{size, ident, commit}
-use Rattle.model.specs.Justified.{twin, twin-of}
-use Rattle.model.proofs.Search.{any-less, any-not}
-use Rattle.justify.specs.Found.{lower, least-commit, Least}
-use Rattle.justify.proofs.Search.{first-holds, first-past, first-below}
+use Rattle.model.specs.Rules.{twin}
+use Rattle.model.specs.Justified.{twin-of}
+use Rattle.model.proofs.Search.{any-less, any-not, first-is, first-least, first-below}
+use Rattle.positions.specs.Idents.{from-slot}
+use Rattle.positions.proofs.Slots.{slot-twin}
+use Rattle.justify.specs.Found.{Idents, lower, least-commit, Least}
+
+-- the position that is found by the table
+pub twin-found : {x t : List ℕ} (d : ℕ) → Idents x t → from-slot x t d ≡ twin x d
+twin-found {x} {t} d h = slot-twin x t d (omega (arith, h .few)) (h .firsts-held)
 
 module _ (x : List ℕ) where
   -- an action that is found has the identifier
   pub twin-has : (d : ℕ) → twin x d < size x → ident x (twin x d) ≡ d
   unfolding twin
-  twin-has d l = eqb-true (ident x (twin x d)) d (first-holds (λ a. eqb (ident x a) d) (size x) l)
+  twin-has d l = eqb-true (ident x (twin x d)) d (first-is (λ a. eqb (ident x a) d) (size x) .holds l)
 
   pub twin-below : (a : ℕ) → a < size x → twin-of x x a < size x
   unfolding twin
@@ -111,4 +117,4 @@ module _ (e : List ℕ) where
 
     pub least-past : size e ≤ twin e d → least-commit e d (size e) ≡ none
     unfolding twin
-    least-past l = least-absent (size e) (first-past (λ a. eqb (ident e a) d) (size e) l)
+    least-past l = least-absent (size e) (any-less (λ a. eqb (ident e a) d) (twin e d) (size e) l (first-least (λ a. eqb (ident e a) d) (size e)))

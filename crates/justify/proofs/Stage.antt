@@ -3,19 +3,14 @@ use Prim.Native.Nat.{ℕ, zero, suc, _-_, _<_}
 use native.Mathlib.Omega.{arith}
 use mathlib.Core.Path.{_≡_, refl, sym}
 use mathlib.Core.List.{List}
-use mathlib.Core.Bool.{Bool, true, false, not, cond, _&&_, _||_}
+use mathlib.Core.Bool.{Bool, true, false, not, cond, _&&_, _||_, or-false, and-comm, and-assoc}
 use lib.Dec.{eqb, ltb, leb}
 use borrow.Author.Tests.{lt-leb, lt-ltb, le-ltb, ltb-true, ltb-false, leb-true, leb-false}
 use Rattle.model.specs.Search.{any, none}
 use Rattle.model.specs.Layout.{size, ident, kind, commit, seen, read}
 use Rattle.model.specs.Rules.{seen-hb}
-use Rattle.model.specs.Justified.{C, C#, twin-of, new, broken26, broken27, broken29}
+use Rattle.model.specs.Justified.{C, C#, twin-of, new, broken26, broken27, outside, broken29}
 use Rattle.justify.specs.Found.{lower, least-commit, stage, stage-of, fresh}
-use Rattle.justify.specs.Idle.{outside}
-
-or-false : (b : Bool) → b || false ≡ b
-or-false true = refl
-or-false false = refl
 
 -- a test of the code that is not `≤`
 pub not-leb : (i s : ℕ) → ltb i s ≡ not (leb s i)
@@ -61,32 +56,28 @@ module _ (e : List ℕ) (d i : ℕ) where
 
 -- The rules that ask for membership, by the stages
 module _ (e f : List ℕ) (i : ℕ) (l : i < none) where
-  earlier : i - 1 < none
-  earlier = omega arith
+  less : i - 1 < none
+  less = omega arith
 
   pub new-fresh : (x : ℕ) → new e f i x ≡ fresh (stage-of e f x) i
   unfolding new
-  new-fresh x = rw (in-C e (ident f x) i l, in-C e (ident f x) (i - 1) earlier)
+  new-fresh x = rw (in-C e (ident f x) i l, in-C e (ident f x) (i - 1) less)
 
   pub by-stage26 : (h : ℕ → ℕ → Bool) (x : ℕ) → broken26 h e f i x ≡ read f x && not (leb (stage-of e f x) (i - 1)) && not (seen-hb h f x x)
   unfolding broken26
-  by-stage26 h x = rw (in-C e (ident f x) (i - 1) earlier)
+  by-stage26 h x = rw (in-C e (ident f x) (i - 1) less)
 
   pub by-stage27 : (x : ℕ) → broken27 e f i x ≡ read f x && fresh (stage-of e f x) i && not (leb (stage e (seen e (twin-of f e x))) (i - 1) && leb (stage e (seen f x)) (i - 1))
   unfolding broken27
   by-stage27 x =
-      rw (new-fresh x, in-C e (seen e (twin-of f e x)) (i - 1) earlier, in-C e (seen f x) (i - 1) earlier)
+      rw (new-fresh x, in-C e (seen e (twin-of f e x)) (i - 1) less, in-C e (seen f x) (i - 1) less)
+
+  pub outside-stage : (x : ℕ) → outside e f i x ≡ eqb (kind f x) 11 && not (leb (stage-of e f x) i)
+  unfolding outside
+  outside-stage x = rw (in-C e (ident f x) i l)
 
   pub by-outside29 : (h : ℕ → ℕ → Bool) (x y : ℕ) → broken29 h e f i x y ≡ h x y && (outside e f i x && leb (stage-of e f y) i)
-  unfolding broken29 outside
+  unfolding broken29
   by-outside29 h x y =
-      rw (in-C e (ident f x) i l, in-C e (ident f y) i l)
-      (regroup (eqb (kind f x) 11) (not (leb (stage-of e f x) i)) (h x y) (leb (stage-of e f y) i))
-    where
-      -- the code asks h first
-      regroup : (k s g t : Bool) → k && s && g && t ≡ g && ((k && s) && t)
-      regroup false s true t = refl
-      regroup false s false t = refl
-      regroup true false true t = refl
-      regroup true false false t = refl
-      regroup true true g t = refl
+      rw (in-C e (ident f y) i l, and-comm (outside e f i x) (h x y))
+      (and-assoc (h x y) (outside e f i x) (leb (stage-of e f y) i))

@@ -1,25 +1,26 @@
--- Rows compared word by word, over the width W of a row.
+-- Rows compared word by word, and masks.
 use Prim.Native.Nat.{ℕ, zero, suc, _+_, _*_, _/_, _%_, _^_, _<_, _≤_, min}
 use native.Mathlib.Decide.{decLt, ℕ-discrete}
 use native.Mathlib.Omega.{arith}
 use mathlib.Core.Path.{_≡_, refl, sym, _∙_}
 use mathlib.Core.List.{List, []}
-use mathlib.Core.Bool.{Bool, true, false, not, _&&_, Bool·beq, and-false, or-false, and-comm}
+use mathlib.Core.Bool.{Bool, true, false, not, _&&_, Bool·beq, and-false, or-false, and-comm, and-assoc}
 use mathlib.Mathlib.Data.Bool.Basic.{eq-true-of-not-eq-false}
 use lib.ListN.{length, getD, replicate}
 use lib.Dec.{eqb, ltb, lit<}
 use lib.Arith.{digits-mod}
 use lib.Bits.{bitAnd, bitXor, differ, and-shr, and-step, xor-shr, xor-step}
 use borrow.Author.Tests.{lt-ltb, le-ltb, eq-eqb, ne-eqb}
+use Rattle.model.specs.Limits.{maxActions, rowWords}
 use Rattle.model.specs.Search.{any}
-use Rattle.model.specs.WorkArea.{bit}
-use Rattle.model.proofs.Search.{any-same, any-not}
+use Rattle.model.specs.WorkArea.{shown}
+use Rattle.model.proofs.Search.{any-same, any-not, any-clip}
 use Rattle.model.proofs.Words.{on, on-zero, same-bits, bit-in, bit-past}
-use Rattle.rows.specs.Steps.{marked}
+use Rattle.rows.specs.Part.{has, marked}
 use Rattle.rows.proofs.Cleared.{bit-cleared}
 use Rattle.rows.proofs.Marked.{bits-marked}
-use Rattle.justify.specs.Row.{differs, meets, Masked}
-use Rattle.justify.proofs.Search.{any-clip}
+use Rattle.rows.proofs.Part.{shown-cell}
+use Rattle.justify.specs.Row.{differs, shares, Masked}
 
 -- two bits, by cases
 digits : (P : ℕ → ℕ → Type 0) → P 0 0 → P 0 1 → P 1 0 → P 1 1 → (r s : ℕ) → r < 2 → s < 2 → P r s
@@ -50,29 +51,29 @@ module _ (u v j : ℕ) where
       rw (xor-shr u v j, xor-step r s, digits-mod (bitXor (r / 2) (s / 2)) m)
       (digits (λ (a b : ℕ). eqb (differ a b) 1 ≡ not (Bool·beq (eqb a 1) (eqb b 1))) refl refl refl refl (r % 2) (s % 2) (omega arith) (omega arith))
 
-module _ (W : ℕ) (p q mask : List ℕ) (a : ℕ) where
+module _ (p q mask : List ℕ) (a : ℕ) where
   -- the bits of word j in which the rows differ under the mask
   abbrev pub apart : ℕ → ℕ
-  apart j = bitAnd (bitXor (getD p (W * a + j) 0) (getD q (W * a + j) 0)) (getD mask j 0)
+  apart j = bitAnd (bitXor (getD p (rowWords * a + j) 0) (getD q (rowWords * a + j) 0)) (getD mask j 0)
 
-  differs-on : (b : ℕ) → b < 64 * W → differs W p q mask a b ≡ on (apart (b / 64)) (b % 64)
+  differs-on : (b : ℕ) → b < maxActions → differs p q mask a b ≡ on (apart (b / 64)) (b % 64)
   unfolding differs
   differs-on b h =
-      let u = getD p (W * a + b / 64) 0 in
-      let v = getD q (W * a + b / 64) 0 in
-      let z : W * 0 + b / 64 ≡ b / 64 = omega arith in
-      rw (on-and (bitXor u v) (getD mask (b / 64) 0) (b % 64), on-xor u v (b % 64), bit-in W mask 0 b h, bit-in W p a b h, bit-in W q a b h, z)
+      let u = getD p (rowWords * a + b / 64) 0 in
+      let v = getD q (rowWords * a + b / 64) 0 in
+      let z : rowWords * 0 + b / 64 ≡ b / 64 = omega arith in
+      rw (on-and (bitXor u v) (getD mask (b / 64) 0) (b % 64), on-xor u v (b % 64), shown-cell p a b, shown-cell q a b, bit-in rowWords mask 0 b h, bit-in rowWords p a b h, bit-in rowWords q a b h, z)
       (and-comm (on (getD mask (b / 64) 0) (b % 64)) (not (Bool·beq (on u (b % 64)) (on v (b % 64)))))
 
   -- the rows agree in the first j words, and in one more
-  pub agree-more : (j : ℕ) → j < W → apart j ≡ 0 → ((b : ℕ) → b < 64 * j → differs W p q mask a b ≡ false) → (b : ℕ) → b < 64 * (j + 1) → differs W p q mask a b ≡ false
+  pub agree-more : (j : ℕ) → j < rowWords → apart j ≡ 0 → ((b : ℕ) → b < 64 * j → differs p q mask a b ≡ false) → (b : ℕ) → b < 64 * (j + 1) → differs p q mask a b ≡ false
   agree-more j l e h b m =
       elim (decLt b (64 * j)) [
         | yes k ↦ h b k
         | no g ↦ let s : b / 64 ≡ j = omega arith in differs-on b (omega arith) ∙ rw (s, e) (on-zero (b % 64))
       ]
 
-  pub differ-some : (j : ℕ) → j < W → apart j < 2 ^ 64 → (apart j ≡ 0 → ⊥) → any (64 * W) (differs W p q mask a) ≡ true
+  pub differ-some : (j : ℕ) → j < rowWords → apart j < 2 ^ 64 → (apart j ≡ 0 → ⊥) → any maxActions (differs p q mask a) ≡ true
   differ-some j l small some =
       eq-true-of-not-eq-false
       (λ f.
@@ -81,29 +82,29 @@ module _ (W : ℕ) (p q mask : List ℕ) (a : ℕ) where
       (λ k m.
       let s : (64 * j + k) / 64 ≡ j = omega arith in
       let t : (64 * j + k) % 64 ≡ k = omega arith in
-      let i : 64 * j + k < 64 * W = omega arith in
+      let i : 64 * j + k < maxActions = omega arith in
       let d : on (apart ((64 * j + k) / 64)) ((64 * j + k) % 64) ≡ false =
-      sym (differs-on (64 * j + k) i) ∙ any-not (differs W p q mask a) (64 * W) (64 * j + k) i f in
+      sym (differs-on (64 * j + k) i) ∙ any-not (differs p q mask a) maxActions (64 * j + k) i f in
       (rw (s, t) at d) ∙ sym (on-zero k))))
 
 -- against no row
-pub meets-differs : (W : ℕ) (p mask : List ℕ) (a : ℕ) → any (64 * W) (differs W p [] mask a) ≡ any (64 * W) (meets W p mask a)
-unfolding differs meets
-meets-differs W p mask a =
-    any-same (differs W p [] mask a) (meets W p mask a) (64 * W)
-    (λ b l. rw (bit-past W [] a b (omega arith)) (go (bit W mask 0 b) (bit W p a b)))
+pub shares-differs : (p mask : List ℕ) (a : ℕ) → any maxActions (differs p [] mask a) ≡ any maxActions (shares p mask a)
+unfolding differs shares
+shares-differs p mask a =
+    any-same (differs p [] mask a) (shares p mask a) maxActions
+    (λ b l. rw (shown-cell [] a b, bit-past rowWords [] a b (omega arith)) (go (has mask b) (shown p a b)))
   where
     go : (x y : Bool) → x && not (Bool·beq y false) ≡ x && y
     go true true = refl
     go true false = refl
     go false y = refl
 
--- a mask, one bit more at a time
-module _ (W : ℕ) (t : ℕ → Bool) where
-  pub masked-none : (n : ℕ) → Masked W (replicate n 0) 0 t
-  masked-none n = record { bits = λ b. bit-cleared W n 0 b ∙ rw (le-ltb b 0 (omega arith)) }
+-- a mask, one action more at a time
+module _ (t : ℕ → Bool) where
+  pub masked-none : (n : ℕ) → Masked (replicate n 0) 0 t
+  masked-none n = record { bits = λ b. bit-cleared rowWords n 0 b ∙ rw (le-ltb b 0 (omega arith)) }
 
-  module _ (m : List ℕ) (n : ℕ) (h : Masked W m n t) where
+  module _ (m : List ℕ) (n : ℕ) (h : Masked m n t) where
     same : (b : ℕ) → (b ≡ n → ⊥) → ltb b n && t b ≡ ltb b (n + 1) && t b
     same b g =
         elim (decLt b n) [
@@ -111,7 +112,7 @@ module _ (W : ℕ) (t : ℕ → Bool) where
           | no l ↦ rw (le-ltb b n (omega arith), le-ltb b (n + 1) (omega arith))
         ]
 
-    pub masked-skip : t n ≡ false → Masked W m (n + 1) t
+    pub masked-skip : t n ≡ false → Masked m (n + 1) t
     masked-skip e =
         record {
           bits = λ b.
@@ -121,27 +122,22 @@ module _ (W : ℕ) (t : ℕ → Bool) where
               ];
         }
 
-    pub masked-more : n < 64 * W → W * 0 + n / 64 < length m → t n ≡ true → Masked W (marked W m 0 n) (n + 1) t
-    masked-more wide inside e =
+    pub masked-more : n < maxActions → length m ≡ rowWords → t n ≡ true → Masked (marked m 0 n) (n + 1) t
+    masked-more fits len e =
         record {
           bits = λ b.
-              bits-marked W m 0 n 0 b (λ _ _. (wide, inside)) ∙ rw (h .bits b)
+              bits-marked rowWords m 0 n 0 b (λ _ _. (fits, omega arith)) ∙ rw (h .bits b)
               (elim (ℕ-discrete b n) [
                 | yes q ↦ rw (q, e, le-ltb n n (omega arith), lt-ltb n (n + 1) (omega arith), eq-eqb n n refl)
                 | no g ↦ rw (ne-eqb b n g) (or-false (ltb b n && t b) ∙ same b g)
               ]);
         }
 
-  -- a row meets a mask where it has a position of which the mask's test holds
-  pub meets-masked :
-      (m : List ℕ) (n : ℕ) → Masked W m n t → n ≤ 64 * W → (p : List ℕ) (a : ℕ) →
-      any (64 * W) (meets W p m a) ≡ any n (λ b. t b && bit W p a b)
-  unfolding meets
-  meets-masked m n h l p a =
-      any-same (meets W p m a) (λ b. ltb b n && (t b && bit W p a b)) (64 * W)
-      (λ b k. rw (h .bits b) (regroup (ltb b n) (t b) (bit W p a b)))
-      ∙ any-clip n (λ b. t b && bit W p a b) (64 * W) l
-    where
-      regroup : (x y z : Bool) → (x && y) && z ≡ x && (y && z)
-      regroup true y z = refl
-      regroup false y z = refl
+  -- a row shares an action with a mask where it has one of which the mask's test holds
+  pub shares-masked :
+      (m : List ℕ) (n : ℕ) → Masked m n t → n ≤ maxActions → (p : List ℕ) (a : ℕ) → any maxActions (shares p m a) ≡ any n (λ b. t b && shown p a b)
+  unfolding shares
+  shares-masked m n h l p a =
+      any-same (shares p m a) (λ b. ltb b n && (t b && shown p a b)) maxActions
+      (λ b k. rw (h .bits b) (and-assoc (ltb b n) (t b) (shown p a b)))
+      ∙ any-clip (λ b. t b && shown p a b) n maxActions l

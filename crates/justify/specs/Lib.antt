@@ -2,4 +2,4 @@
 pub mod Row
 pub mod Found
 pub mod Idle
-pub mod Numbered
+pub mod ByNumber

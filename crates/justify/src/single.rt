@@ -2,24 +2,20 @@
 ghost use mathlib.Core.Path.{_≡_};
 ghost use mathlib.Core.Bool.{not};
 ghost use Prim.Native.Nat.{_<_};
-ghost use Rattle.model.specs.Limits.{rowWords};
 ghost use Rattle.model.specs.Search.{any};
 ghost use Rattle.model.specs.Answers.{rule};
-ghost use Rattle.model.specs.Layout.{size, ident, seen, read, write};
-ghost use Rattle.model.specs.WorkArea.{bit};
+ghost use Rattle.model.specs.Layout.{size};
+ghost use Rattle.model.specs.WorkArea.{shown};
 ghost use Rattle.model.specs.Rules.{«seen-hb»};
-ghost use Rattle.model.specs.Justified.{C, «twin-of», broken21, broken24, broken25, broken26, broken27};
-ghost use Rattle.justify.specs.Found.{Indexed, Staged, Asked};
-ghost use Rattle.justify.specs.Numbered.{alike, single, span};
-use crate::PASS;
-use crate::found::ROOM;
-use crate::found::SLOTS;
+ghost use Rattle.model.specs.Justified.{C, «twin-of», alike, broken21, broken24, broken25, broken26, broken27};
+ghost use Rattle.justify.specs.Found.{Idents, Staged, Asked};
+ghost use Rattle.justify.specs.ByNumber.{single, span};
 use crate::found::fresh;
 use crate::found::previous;
 use crate::found::stage;
-use crate::found::twin;
-use crate::named;
 use answers::NONE;
+use answers::naming;
+use answers::numbered;
 use fields::commit;
 use fields::ident;
 use fields::kind;
@@ -29,19 +25,11 @@ use fields::target;
 use fields::thread;
 use fields::value;
 use model::Answer;
-use table::row_of;
-
-fn read(x: &[u8], a: u16) -> bool
-    ensures { λ r. ⌜ r ≡ read (now (x .entry)) a ⌝ }
-{
-    row_of(kind(x, a)).read
-}
-
-fn write(x: &[u8], a: u16) -> bool
-    ensures { λ r. ⌜ r ≡ write (now (x .entry)) a ⌝ }
-{
-    row_of(kind(x, a)).write
-}
+use model::MAX_ACTIONS;
+use positions::firsts::KEYS;
+use positions::idents::position_of;
+use table::read;
+use table::write;
 
 // Whether action a of e is in C_i.
 pub(crate) fn committed(e: &[u8], i: u8, a: u16) -> bool
@@ -122,52 +110,59 @@ fn broken25(e: &[u8], f: &[u8], x: u16, i: u8, a: u16) -> bool
 }
 
 // Whether the write that x sees isn't hb it.
-fn unseen(f: &[u8], part: &[u64], index: &[u8; SLOTS], x: u16) -> bool
-    requires { ⌜ Indexed (now f) (now index) 0 ⌝ }
-    ensures { λ r. ⌜ r ≡ not (seen-hb (bit rowWords (now (part .entry))) (now (f .entry)) x x) ⌝ }
+fn unseen(f: &[u8], part: &[u64], firsts: &[u16; KEYS], x: u16) -> bool
+    requires { ⌜ Idents (now f) (now firsts) ⌝ }
+    ensures { λ r. ⌜ r ≡ not (seen-hb (shown (now (part .entry))) (now (f .entry)) x x) ⌝ }
 {
     let d = seen(f, x);
     if d == 0 {
         return false;
     }
-    !rows::get(part, twin(f, index, d), x)
+    !rows::before(part, position_of(f, firsts, d), x)
 }
 
 fn broken26(
     e: &[u8],
     f: &[u8],
     part: &[u64],
-    e_index: &[u8; SLOTS],
-    f_index: &[u8; SLOTS],
-    least: &[u16; ROOM],
+    e_firsts: &[u16; KEYS],
+    f_firsts: &[u16; KEYS],
+    least: &[u16; MAX_ACTIONS],
     i: u8,
     x: u16,
 ) -> bool
-    requires { ⌜ Staged (now e) (now «e_index») (now least) × Indexed (now f) (now «f_index») 0 ⌝ }
-    ensures { λ r. ⌜ r ≡ broken26 (bit rowWords (now (part .entry))) (now (e .entry)) (now (f .entry)) i x ⌝ }
+    requires { ⌜ Staged (now e) (now «e_firsts») (now least) × Idents (now f) (now «f_firsts») ⌝ }
+    ensures { λ r. ⌜ r ≡ broken26 (shown (now (part .entry))) (now (e .entry)) (now (f .entry)) i x ⌝ }
 {
     if read(f, x) {
-        if stage(e, e_index, least, ident(f, x)) > previous(i) as u16 {
-            return unseen(f, part, f_index, x);
+        if stage(e, e_firsts, least, ident(f, x)) > previous(i) as u16 {
+            return unseen(f, part, f_firsts, x);
         }
     }
     false
 }
 
 // C_0 is empty: at i = 1 the initial write is not in C_(i-1).
-fn broken27(e: &[u8], f: &[u8], index: &[u8; SLOTS], least: &[u16; ROOM], i: u8, x: u16) -> bool
-    requires { ⌜ Staged (now e) (now index) (now least) ⌝ }
+fn broken27(
+    e: &[u8],
+    f: &[u8],
+    firsts: &[u16; KEYS],
+    least: &[u16; MAX_ACTIONS],
+    i: u8,
+    x: u16,
+) -> bool
+    requires { ⌜ Staged (now e) (now firsts) (now least) ⌝ }
     ensures { λ r. ⌜ r ≡ broken27 (now (e .entry)) (now (f .entry)) i x ⌝ }
 {
     if read(f, x) {
         let d = ident(f, x);
-        if fresh(stage(e, index, least, d), i) {
+        if fresh(stage(e, firsts, least, d), i) {
             let j = previous(i) as u16;
-            let a = twin(e, index, d);
-            if stage(e, index, least, seen(e, a)) > j {
+            let a = position_of(e, firsts, d);
+            if stage(e, firsts, least, seen(e, a)) > j {
                 return true;
             }
-            return stage(e, index, least, seen(f, x)) > j;
+            return stage(e, firsts, least, seen(f, x)) > j;
         }
     }
     false
@@ -178,15 +173,15 @@ fn single(
     e: &[u8],
     f: &[u8],
     part: &[u64],
-    e_index: &[u8; SLOTS],
-    f_index: &[u8; SLOTS],
-    twins: &[u16; ROOM],
-    least: &[u16; ROOM],
+    e_firsts: &[u16; KEYS],
+    f_firsts: &[u16; KEYS],
+    twins: &[u16; MAX_ACTIONS],
+    least: &[u16; MAX_ACTIONS],
     i: u8,
     a: u16,
 ) -> bool
-    requires { ⌜ Asked (now e) (now f) (now «e_index») (now «f_index») (now twins) (now least) × (a < span number (now e) (now f)) ⌝ }
-    ensures { λ r. ⌜ r ≡ single number (bit rowWords (now (part .entry))) (now (e .entry)) (now (f .entry)) i a ⌝ }
+    requires { ⌜ Asked (now e) (now f) (now «e_firsts») (now «f_firsts») (now twins) (now least) × (a < span number (now e) (now f)) ⌝ }
+    ensures { λ r. ⌜ r ≡ single number (shown (now (part .entry))) (now (e .entry)) (now (f .entry)) i a ⌝ }
 {
     if number < 26 {
         let x = twins[a as usize];
@@ -197,8 +192,8 @@ fn single(
         }
     } else {
         match number {
-            26 => broken26(e, f, part, e_index, f_index, least, i, a),
-            _ => broken27(e, f, e_index, least, i, a),
+            26 => broken26(e, f, part, e_firsts, f_firsts, least, i, a),
+            _ => broken27(e, f, e_firsts, least, i, a),
         }
     }
 }
@@ -209,20 +204,20 @@ pub(crate) fn singles(
     e: &[u8],
     f: &[u8],
     part: &[u64],
-    e_index: &[u8; SLOTS],
-    f_index: &[u8; SLOTS],
-    twins: &[u16; ROOM],
-    least: &[u16; ROOM],
+    e_firsts: &[u16; KEYS],
+    f_firsts: &[u16; KEYS],
+    twins: &[u16; MAX_ACTIONS],
+    least: &[u16; MAX_ACTIONS],
     i: u8,
     n: u16,
 ) -> Answer
-    requires { ⌜ Asked (now e) (now f) (now «e_index») (now «f_index») (now twins) (now least) × (n ≡ span number (now e) (now f)) ⌝ }
-    ensures { λ q. ⌜ q ≡ rule number i n (single number (bit rowWords (now (part .entry))) (now (e .entry)) (now (f .entry)) i) ⌝ }
+    requires { ⌜ Asked (now e) (now f) (now «e_firsts») (now «f_firsts») (now twins) (now least) × (n ≡ span number (now e) (now f)) ⌝ }
+    ensures { λ q. ⌜ q ≡ rule number i n (single number (shown (now (part .entry))) (now (e .entry)) (now (f .entry)) i) ⌝ }
 {
     for a in 0..n {
-        if single(number, e, f, part, e_index, f_index, twins, least, i, a) {
-            return named(number, i, a, NONE);
+        if single(number, e, f, part, e_firsts, f_firsts, twins, least, i, a) {
+            return naming(number, i, a, NONE);
         }
     }
-    PASS
+    numbered(0, 0)
 }

@@ -4,16 +4,15 @@ use native.Mathlib.Omega.{arith}
 use mathlib.Core.Path.{_≡_, sym}
 use mathlib.Core.Bool.{false}
 use borrow.Author.Needs.{needs}
-use Rattle.model.specs.Limits.{rowWords}
 use Rattle.model.specs.Search.{any}
-use Rattle.model.specs.WorkArea.{bit}
+use Rattle.model.specs.WorkArea.{shown}
+use Rattle.model.specs.Justified.{through}
 use Rattle.model.proofs.Search.{any-none, any-pass, any-at}
-use Rattle.edges.specs.Edge.{through}
 use Rattle.edges.proofs.between.Statement.{statement}
 use Rattle.edges.proofs.between.Tie as tie
 
 abbrev Inv-loop : tie.InvT-loop
-Inv-loop part n x y z₀ z = (z ≤ n) × (any z (through (bit rowWords part) x y) ≡ false)
+Inv-loop part n x y z₀ z = (z ≤ n) × (any z (through (shown part) x y) ≡ false)
 
 abbrev μ-loop : tie.MeasureT-loop
 μ-loop part n x y z₀ z = n - z

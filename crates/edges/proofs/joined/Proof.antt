@@ -5,9 +5,9 @@ use mathlib.Core.Path.{_≡_, sym}
 use mathlib.Core.Bool.{false}
 use borrow.Author.Needs.{needs}
 use Rattle.model.specs.Search.{any}
+use Rattle.model.specs.Justified.{joins, sw#}
 use Rattle.model.proofs.Search.{any-none, any-pass, any-at}
-use Rattle.edges.specs.Edge.{joins}
-use Rattle.edges.proofs.Edge.{by-ends, by-known}
+use Rattle.edges.proofs.Edge.{by-known}
 use Rattle.edges.proofs.joined.Statement.{statement}
 use Rattle.edges.proofs.joined.Tie as tie
 
@@ -26,9 +26,9 @@ loop-holds : tie.Need-loop-holds Inv-loop μ-loop
 loop-holds c = (search needs, any-none _)
 
 returns-2 : tie.Need-returns-2 Inv-loop μ-loop
+unfolding sw#
 returns-2 c =
-    rw by-ends
-    (sym (any-at _ _ (c .before .before .before .loop .a) (search needs) (rw (c .before .joins .ensures) at (c .if4 .taken))))
+    sym (any-at _ _ (c .before .before .before .loop .a) (search needs) (rw (c .before .joins .ensures) at (c .if4 .taken)))
 
 loop-again : tie.Need-loop-again Inv-loop μ-loop
 loop-again c = (
@@ -37,9 +37,10 @@ loop-again c = (
 )
 
 returns-3 : tie.Need-returns-3 Inv-loop μ-loop
+unfolding sw#
 returns-3 c =
     let e : c .before .loop .a ≡ c .before .before .before .size .result = omega arith in
-    rw (by-ends, ← (c .before .before .before .size .ensures), ← e) (sym (c .before .loop .inv .1))
+    rw (← (c .before .before .before .size .ensures), ← e) (sym (c .before .loop .inv .1))
 
 pub joined-spec : {M : Type 1} → statement M
 joined-spec =

@@ -1,6 +1,6 @@
 -- `edges::lacks` meets its contract.
 use borrow.Author.Needs.{needs}
-use Rattle.edges.specs.Edge.{lacks}
+use Rattle.model.specs.Justified.{lacks}
 use Rattle.edges.proofs.lacks.Statement.{statement}
 use Rattle.edges.proofs.lacks.Tie as tie
 

@@ -5,9 +5,8 @@ use mathlib.Core.Path.{_≡_, sym}
 use mathlib.Core.Bool.{false}
 use borrow.Author.Needs.{needs}
 use Rattle.model.specs.Search.{any}
-use Rattle.model.specs.Justified.{missing}
+use Rattle.model.specs.Justified.{lacks, missing}
 use Rattle.model.proofs.Search.{any-none, any-pass, any-at}
-use Rattle.edges.specs.Edge.{lacks}
 use Rattle.edges.proofs.missing.Statement.{statement}
 use Rattle.edges.proofs.missing.Tie as tie
 
@@ -21,7 +20,7 @@ loop-holds : tie.Need-loop-holds Inv-loop μ-loop
 loop-holds c = (search needs, any-none _)
 
 returns : tie.Need-returns Inv-loop μ-loop
-unfolding missing lacks
+unfolding missing
 returns c =
     rw (← (c .before .before .before .before .justifying .ensures))
     (sym (any-at _ _ (c .before .before .before .loop .j) (c .before .before .loop-test .taken) (rw (c .before .lacks .ensures) at (c .if1 .taken))))
@@ -33,7 +32,7 @@ loop-again c = (
 )
 
 returns-2 : tie.Need-returns-2 Inv-loop μ-loop
-unfolding missing lacks
+unfolding missing
 returns-2 c =
     let e : c .before .loop .j ≡ c .before .before .justifying .result + 1 = omega arith in
     rw (← (c .before .before .justifying .ensures), ← e) (sym (c .before .loop .inv .1))

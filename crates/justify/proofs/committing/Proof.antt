@@ -1,7 +1,7 @@
 -- `justify::committing` meets its contract: e and f are sections 0 and i as parts of the record.
 use borrow.Author.Needs.{needs}
 use borrow.Author.Tests.{le-leb, lt-leb}
-use Rattle.justify.specs.Numbered.{within-limit}
+use Rattle.positions.specs.Limit.{limited}
 use Rattle.record.proofs.Parts.{span-section, span-low, span-high}
 use Rattle.justify.proofs.committing.Statement.{statement}
 use Rattle.justify.proofs.committing.Tie as tie
@@ -25,23 +25,26 @@ part-f-end : tie.Need-part-f-end
 part-f-end c = span-high _ _ _ (c .before .bounds2 .ensures)
 
 returns : tie.Need-returns
-unfolding within-limit
-returns c = rw (← (span-section _ _ _ (c .before .before .before .before .before .bounds .ensures)), ← (c .before .size .ensures), lt-leb _ _ (c .if1 .taken))
+unfolding limited
+returns c =
+    rw (← (span-section _ _ _ (c .before .before .before .before .before .before .bounds .ensures)), ← (c .before .before .size .ensures), lt-leb _ _ (c .before .if1 .taken))
+    (c .numbered .ensures)
 
 returns-2 : tie.Need-returns-2
-unfolding within-limit
+unfolding limited
 returns-2 c =
     rw (
-      ← (span-section _ _ _ (c .before .before .before .before .before .before .before .bounds .ensures)),
-      ← (c .before .before .before .size .ensures),
-      le-leb _ _ (c .before .before .if1 .left),
-      ← (span-section _ _ _ (c .before .before .before .before .before .before .bounds2 .ensures)),
-      ← (c .before .size2 .ensures),
-      lt-leb _ _ (c .if2 .taken),
+      ← (span-section _ _ _ (c .before .before .before .before .before .before .before .before .bounds .ensures)),
+      ← (c .before .before .before .before .size .ensures),
+      le-leb _ _ (c .before .before .before .if1 .left),
+      ← (span-section _ _ _ (c .before .before .before .before .before .before .before .bounds2 .ensures)),
+      ← (c .before .before .size2 .ensures),
+      lt-leb _ _ (c .before .if2 .taken),
     )
+    (c .numbered2 .ensures)
 
-judge-requires : tie.Need-judge-requires
-judge-requires c κs = (
+with-tables-requires : tie.Need-with-tables-requires
+with-tables-requires c κs = (
   span-section _ _ _ (c .before .before .before .before .before .before .before .bounds .ensures),
   span-section _ _ _ (c .before .before .before .before .before .before .bounds2 .ensures),
   rw (← (c .before .before .before .size .ensures)) (c .before .before .if1 .left),
@@ -49,7 +52,7 @@ judge-requires c κs = (
 )
 
 returns-3 : tie.Need-returns-3
-unfolding within-limit
+unfolding limited
 returns-3 c =
     rw (
       ← (span-section _ _ _ (c .before .before .before .before .before .before .before .before .bounds .ensures)),
@@ -59,7 +62,7 @@ returns-3 c =
       ← (c .before .before .size2 .ensures),
       le-leb _ _ (c .before .if2 .left),
     )
-    (c .judge .ensures)
+    (c .with-tables .ensures)
 
 pub committing-spec : {M : Type 1} → statement M
 committing-spec =
@@ -75,9 +78,11 @@ committing-spec =
     part-f-end
     (λ c κs. search needs)
     (λ c. search needs)
+    (λ c κs. search needs)
     returns
     (λ c κs. search needs)
     (λ c. search needs)
+    (λ c κs. search needs)
     returns-2
-    judge-requires
+    with-tables-requires
     returns-3)

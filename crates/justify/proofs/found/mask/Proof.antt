@@ -14,13 +14,13 @@ use Rattle.justify.proofs.found.mask.Statement.{statement}
 use Rattle.justify.proofs.found.mask.Tie as tie
 
 abbrev Inv-loop : tie.InvT-loop
-Inv-loop own e f index least i n m₀ b₀ m b = (b ≤ n) × (length m ≡ rowWords) × Masked rowWords m b (chosen own e f i)
+Inv-loop own e f firsts least i n m₀ b₀ m b = (b ≤ n) × (length m ≡ rowWords) × Masked m b (chosen own e f i)
 
 abbrev μ-loop : tie.MeasureT-loop
-μ-loop own e f index least i n m₀ b₀ m b = n - b
+μ-loop own e f firsts least i n m₀ b₀ m b = n - b
 
 loop-holds : tie.Need-loop-holds Inv-loop μ-loop
-loop-holds c = (search needs, refl, masked-none _ _ rowWords)
+loop-holds c = (search needs, refl, masked-none _ rowWords)
 
 slice-aggregate-set : tie.Need-slice-aggregate-set Inv-loop μ-loop
 slice-aggregate-set c = sym (c .before .before .before .before .loop .inv .1)
@@ -30,8 +30,8 @@ loop-again c =
     let at = c .before .before .before in (
       search needs,
       ⊎-elim (λ w. ap length (w .4 ∙ w .2 .ensures) ∙ length-marked _ _ _ _ ∙ at .loop .inv .1) (λ w. ap length (w .1) ∙ at .loop .inv .1) (c .if1 .came),
-      ⊎-elim (λ w. rw (w .4 ∙ w .2 .ensures) (masked-more _ _ _ _ (at .loop .inv .2) (omega arith) (omega arith) (rw (c .before .chosen .ensures) at (w .0 .taken))))
-          (λ w. rw (w .1) (masked-skip _ _ _ _ (at .loop .inv .2) (rw (c .before .chosen .ensures) at (w .0 .left))))
+      ⊎-elim (λ w. rw (w .4 ∙ w .2 .ensures) (masked-more _ _ _ (at .loop .inv .2) (omega arith) (at .loop .inv .1) (rw (c .before .chosen .ensures) at (w .0 .taken))))
+          (λ w. rw (w .1) (masked-skip _ _ _ (at .loop .inv .2) (rw (c .before .chosen .ensures) at (w .0 .left))))
           (c .if1 .came),
     )
 

@@ -11,10 +11,10 @@ use Rattle.justify.proofs.found.table.Statement.{statement}
 use Rattle.justify.proofs.found.table.Tie as tie
 
 abbrev Inv-loop : tie.InvT-loop
-Inv-loop own e f index n t₀ a₀ t a = (a ≤ n) × (length t ≡ maxActions) × Holds t a (entry own e f)
+Inv-loop own e f firsts n t₀ a₀ t a = (a ≤ n) × (length t ≡ maxActions) × Holds t a (entry own e f)
 
 abbrev μ-loop : tie.MeasureT-loop
-μ-loop own e f index n t₀ a₀ t a = n - a
+μ-loop own e f firsts n t₀ a₀ t a = n - a
 
 loop-holds : tie.Need-loop-holds Inv-loop μ-loop
 loop-holds c = (search needs, refl, holds-none _ _)

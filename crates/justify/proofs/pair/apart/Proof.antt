@@ -2,7 +2,7 @@
 use borrow.Author.Needs.{needs}
 use borrow.Author.Tests.{eq-eqb, ne-eqb}
 use Rattle.model.specs.Justified.{just-one}
-use Rattle.justify.specs.Numbered.{apart}
+use Rattle.justify.specs.ByNumber.{apart}
 use Rattle.justify.proofs.pair.apart.Statement.{statement}
 use Rattle.justify.proofs.pair.apart.Tie as tie
 
@@ -15,8 +15,8 @@ returns c =
       ← (c .before .before .before .before .committed2 .ensures),
       c .before .before .before .if2 .taken,
       eq-eqb _ _ (c .before .before .if3 .taken),
-      c .before .get .ensures,
-      c .get2 .ensures,
+      c .before .before2 .ensures,
+      c .before3 .ensures,
       c .before .before .before .before .before .before .before .before .before .before .before .pre .0,
       c .before .before .before .before .before .before .before .before .before .before .before .pre .1,
     )
@@ -30,8 +30,8 @@ returns-2 c =
       ← (c .before .before .before .before .committed2 .ensures),
       c .before .before .before .if2 .taken,
       ne-eqb _ _ (c .before .before .if3 .left),
-      c .before .earlier .ensures,
-      c .earlier2 .ensures,
+      c .before .lower-place .ensures,
+      c .lower-place2 .ensures,
       c .before .before .before .before .before .before .before .before .before .before .before .pre .0,
       c .before .before .before .before .before .before .before .before .before .before .before .pre .1,
     )

@@ -4,7 +4,6 @@ use native.Mathlib.Omega.{arith}
 use borrow.Author.Needs.{needs}
 use Rattle.model.specs.Search.{none}
 use Rattle.justify.proofs.Stage.{by-outside29}
--- `justify::pair::broken29` meets its contract.
 use Rattle.justify.proofs.pair.broken29.Statement.{statement}
 use Rattle.justify.proofs.pair.broken29.Tie as tie
 
@@ -13,7 +12,7 @@ returns c =
     let l : c .before .before .before .before .before .before .before .before .before .args .i < none = omega arith in
     rw (
       by-outside29 _ _ _ l _ _ _,
-      ← (c .before .before .before .before .before .get .ensures),
+      ← (c .before .before .before .before .before .before2 .ensures),
       c .before .before .before .before .if1 .taken,
       ← (c .before .before .before .outside .ensures),
       c .before .before .if2 .taken,
@@ -24,12 +23,12 @@ returns c =
 returns-2 : tie.Need-returns-2
 returns-2 c =
     let l : c .before .before .before .before .before .before .before .args .i < none = omega arith in
-    rw (by-outside29 _ _ _ l _ _ _, ← (c .before .before .before .get .ensures), c .before .before .if1 .taken, ← (c .before .outside .ensures), c .if2 .left)
+    rw (by-outside29 _ _ _ l _ _ _, ← (c .before .before .before .before2 .ensures), c .before .before .if1 .taken, ← (c .before .outside .ensures), c .if2 .left)
 
 returns-3 : tie.Need-returns-3
 returns-3 c =
     let l : c .before .before .before .before .before .args .i < none = omega arith in
-    rw (by-outside29 _ _ _ l _ _ _, ← (c .before .get .ensures), c .if1 .left)
+    rw (by-outside29 _ _ _ l _ _ _, ← (c .before .before2 .ensures), c .if1 .left)
 
 pub broken29-spec : {M : Type 1} → statement M
 broken29-spec =

@@ -1,14 +1,18 @@
 -- `justify::pair::outside` meets its contract.
+use Prim.Native.Nat.{_<_}
+use native.Mathlib.Omega.{arith}
 use borrow.Author.Needs.{needs}
 use borrow.Author.Tests.{eq-eqb, ne-eqb}
-use Rattle.justify.specs.Idle.{outside}
-use Rattle.justify.proofs.Stage.{not-leb}
+use Rattle.model.specs.Search.{none}
+use Rattle.model.specs.Justified.{outside}
+use Rattle.justify.proofs.Stage.{not-leb, outside-stage}
 use Rattle.justify.proofs.pair.outside.Statement.{statement}
 use Rattle.justify.proofs.pair.outside.Tie as tie
 
 returns : tie.Need-returns
-unfolding outside
-returns c = rw (← (c .before .before .before .kind .ensures), eq-eqb _ _ (c .before .before .if1 .taken), ← (c .before .ident .ensures), ← (c .stage .ensures)) (not-leb (c .before .before .before .before .before .before .args .i) (c .stage .result))
+returns c =
+    let l : c .before .before .before .before .before .before .args .i < none = omega arith in
+    rw (outside-stage _ _ _ l _, ← (c .before .before .before .kind .ensures), eq-eqb _ _ (c .before .before .if1 .taken), ← (c .before .ident .ensures), ← (c .stage .ensures)) (not-leb (c .before .before .before .before .before .before .args .i) (c .stage .result))
 
 returns-2 : tie.Need-returns-2
 unfolding outside

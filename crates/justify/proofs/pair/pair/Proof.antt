@@ -5,7 +5,7 @@ use denote.Ref.{now}
 use borrow.Author.Needs.{needs}
 use borrow.Author.Tests.{lt-ltb, le-ltb}
 use Rattle.model.specs.Layout.{size}
-use Rattle.justify.specs.Numbered.{parted}
+use Rattle.justify.specs.ByNumber.{parted}
 use Rattle.justify.proofs.Names.{span-e}
 use Rattle.justify.proofs.pair.pair.Statement.{statement}
 use Rattle.justify.proofs.pair.pair.Tie as tie
@@ -14,10 +14,10 @@ in-e : (c : tie.Then1) → (c .before .before .before .before .before .args .x <
 in-e c = rw (span-e _ _ _ (c .if1 .taken)) at (c .before .before .before .before .before .pre .1)
 
 element-copy-out-apart : tie.Need-element-copy-out-apart
-element-copy-out-apart c = omega (arith, in-e c, c .before .before .before .before .before .pre .0 .0 .few)
+element-copy-out-apart c = omega (arith, in-e c, c .before .before .before .before .before .pre .0 .0 .idents .few)
 
 element-copy-out-apart-2 : tie.Need-element-copy-out-apart-2
-element-copy-out-apart-2 c = omega (arith, in-e (c .before), c .before .before .before .before .before .before .pre .0 .0 .few)
+element-copy-out-apart-2 c = omega (arith, in-e (c .before), c .before .before .before .before .before .before .pre .0 .0 .idents .few)
 
 apart-requires : tie.Need-apart-requires
 apart-requires c κs =

@@ -1,7 +1,7 @@
 -- `justify::single::alike` meets its contract: each way out is a case of the definition's tests, in their order.
 use borrow.Author.Needs.{needs}
 use borrow.Author.Tests.{eq-eqb, ne-eqb}
-use Rattle.justify.specs.Numbered.{alike}
+use Rattle.model.specs.Justified.{alike}
 use Rattle.justify.proofs.single.alike.Statement.{statement}
 use Rattle.justify.proofs.single.alike.Tie as tie
 

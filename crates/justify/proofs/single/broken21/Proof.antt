@@ -1,12 +1,11 @@
 -- `justify::single::broken21` meets its contract.
 use borrow.Author.Needs.{needs}
 use Rattle.model.specs.Justified.{broken21}
-use Rattle.justify.specs.Numbered.{alike}
 use Rattle.justify.proofs.single.broken21.Statement.{statement}
 use Rattle.justify.proofs.single.broken21.Tie as tie
 
 returns : tie.Need-returns
-unfolding broken21 alike
+unfolding broken21
 returns c = rw (← (c .before .before .committed .ensures), c .before .if1 .taken, c .kept .ensures)
 
 returns-2 : tie.Need-returns-2

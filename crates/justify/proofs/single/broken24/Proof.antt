@@ -1,7 +1,7 @@
 -- `justify::single::broken24` meets its contract: the values are compared by their bits.
 use borrow.Author.Needs.{needs}
 use Rattle.model.specs.Justified.{broken24}
-use Rattle.justify.proofs.Signed.{same-bits}
+use Rattle.model.proofs.Signed.{same-bits}
 use Rattle.justify.proofs.single.broken24.Statement.{statement}
 use Rattle.justify.proofs.single.broken24.Tie as tie
 

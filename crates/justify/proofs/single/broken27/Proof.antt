@@ -2,10 +2,12 @@
 use Prim.Native.Nat.{_<_}
 use native.Mathlib.Omega.{arith}
 use denote.Ref.{now}
+use mathlib.Core.Path.{_∙_}
 use borrow.Author.Needs.{needs}
 use borrow.Author.Tests.{le-leb, lt-leb}
 use Rattle.model.specs.Search.{none}
 use Rattle.model.specs.Justified.{broken27}
+use Rattle.justify.proofs.Least.{twin-found}
 use Rattle.justify.proofs.Stage.{by-stage27, not-leb}
 use Rattle.justify.proofs.single.broken27.Statement.{statement}
 use Rattle.justify.proofs.single.broken27.Tie as tie
@@ -24,7 +26,7 @@ returns c =
       ← (at .before .before .before .stage .ensures),
       ← (at .before .before .fresh .ensures),
       at .before .if2 .taken,
-      ← (c .before .before .before .twin .ensures),
+      ← (c .before .before .before .position-of .ensures ∙ twin-found _ (start .pre .idents)),
       ← (c .before .before .seen .ensures),
       ← (c .before .stage2 .ensures),
       ← (at .previous .ensures),
@@ -45,7 +47,7 @@ returns-2 c =
       ← (at .before .before .before .stage .ensures),
       ← (at .before .before .fresh .ensures),
       at .before .if2 .taken,
-      ← (c .before .before .before .before .before .twin .ensures),
+      ← (c .before .before .before .before .before .position-of .ensures ∙ twin-found _ (start .pre .idents)),
       ← (c .before .before .before .before .seen .ensures),
       ← (c .before .before .before .stage2 .ensures),
       ← (at .previous .ensures),

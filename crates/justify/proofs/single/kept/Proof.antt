@@ -5,8 +5,8 @@ use mathlib.Core.Path.{_≡_, sym}
 use mathlib.Core.Bool.{false}
 use borrow.Author.Needs.{needs}
 use Rattle.model.specs.Search.{any}
+use Rattle.model.specs.Justified.{alike}
 use Rattle.model.proofs.Search.{any-none, any-pass, any-at}
-use Rattle.justify.specs.Numbered.{alike}
 use Rattle.justify.proofs.single.kept.Statement.{statement}
 use Rattle.justify.proofs.single.kept.Tie as tie
 

@@ -5,7 +5,7 @@ use denote.Ref.{now}
 use borrow.Author.Needs.{needs}
 use borrow.Author.Tests.{lt-ltb, le-ltb, ne-eqb}
 use Rattle.model.specs.Layout.{size}
-use Rattle.justify.specs.Numbered.{single}
+use Rattle.justify.specs.ByNumber.{single}
 use Rattle.justify.proofs.Names.{span-e}
 use Rattle.justify.proofs.single.single.Statement.{statement}
 use Rattle.justify.proofs.single.single.Tie as tie
@@ -14,7 +14,7 @@ in-e : (c : tie.Then1) → c .before .before .before .before .args .a < size (no
 in-e c = rw (span-e _ _ _ (c .if1 .taken)) at (c .before .before .before .before .pre .1)
 
 element-copy-out-x : tie.Need-element-copy-out-x
-element-copy-out-x c = omega (arith, in-e c, c .before .before .before .before .pre .0 .staged .few)
+element-copy-out-x c = omega (arith, in-e c, c .before .before .before .before .pre .0 .staged .idents .few)
 
 broken24-requires : tie.Need-broken24-requires
 broken24-requires c κs = c .before .before .before .before .before .before .pre .0 .twins-held .entry _ (in-e (c .before .before))

@@ -1,23 +1,23 @@
 -- `justify::single::singles` meets its contract. The loop's invariant: no action before a breaks the rule.
 use Prim.Native.Nat.{_≤_, _-_}
+use native.Mathlib.Nat.{lt-of-lt-of-le}
 use native.Mathlib.Omega.{arith}
 use mathlib.Core.Path.{_≡_, sym, _∙_}
 use mathlib.Core.Bool.{false}
 use borrow.Author.Needs.{needs}
-use Rattle.model.specs.Limits.{rowWords}
 use Rattle.model.specs.Search.{any, none}
-use Rattle.model.specs.WorkArea.{bit}
+use Rattle.model.specs.WorkArea.{shown}
 use Rattle.model.proofs.Search.{any-none, any-pass}
-use Rattle.model.proofs.Answers.{rule-none, rule-at}
-use Rattle.justify.specs.Numbered.{single}
+use Rattle.model.proofs.Answers.{naming-at, rule-none, rule-at}
+use Rattle.justify.specs.ByNumber.{single}
 use Rattle.justify.proofs.single.singles.Statement.{statement}
 use Rattle.justify.proofs.single.singles.Tie as tie
 
 abbrev Inv-loop : tie.InvT-loop
-Inv-loop number e f part e-index f-index twins least i n a₀ a = (a ≤ n) × (any a (single number (bit rowWords part) e f i) ≡ false)
+Inv-loop number e f part e-firsts f-firsts twins least i n a₀ a = (a ≤ n) × (any a (single number (shown part) e f i) ≡ false)
 
 abbrev μ-loop : tie.MeasureT-loop
-μ-loop number e f part e-index f-index twins least i n a₀ a = n - a
+μ-loop number e f part e-firsts f-firsts twins least i n a₀ a = n - a
 
 loop-holds : tie.Need-loop-holds Inv-loop μ-loop
 loop-holds c = (search needs, any-none _)
@@ -28,7 +28,8 @@ single-requires c κs = (c .before .before .before .before .before .pre .0, rw (
 returns : tie.Need-returns Inv-loop μ-loop
 returns c =
     let few : c .before .before .before .before .before .before .before .before .args .n ≤ none = omega arith in
-    c .named .ensures ∙ sym (rule-at _ _ _ _ _ few (c .before .before .before .loop-test .taken) (c .before .before .before .before .loop .inv .1) (rw (c .before .before .single .ensures) at (c .before .if1 .taken)))
+    let l = c .before .before .before .loop-test .taken in
+    c .naming .ensures ∙ naming-at _ _ _ _ (lt-of-lt-of-le l few) ∙ sym (rule-at _ _ _ _ _ few l (c .before .before .before .before .loop .inv .1) (rw (c .before .before .single .ensures) at (c .before .if1 .taken)))
 
 loop-again : tie.Need-loop-again Inv-loop μ-loop
 loop-again c =
@@ -36,8 +37,8 @@ loop-again c =
 
 returns-2 : tie.Need-returns-2 Inv-loop μ-loop
 returns-2 c =
-    let e : c .before .loop .a ≡ c .before .before .before .before .before .args .n = omega arith in
-    sym (rule-none _ _ _ _ (rw e at (c .before .loop .inv .1)))
+    let e : c .before .before .loop .a ≡ c .before .before .before .before .before .before .args .n = omega arith in
+    c .numbered .ensures ∙ sym (rule-none _ _ _ _ (rw e at (c .before .before .loop .inv .1)))
 
 pub singles-spec : {M : Type 1} → statement M
 singles-spec =
@@ -52,4 +53,5 @@ singles-spec =
     (λ c. search needs)
     (λ c. search needs)
     loop-again
+    (λ c κs. search needs)
     returns-2)

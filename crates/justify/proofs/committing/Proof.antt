@@ -1,7 +1,9 @@
 -- `justify::committing` meets its contract: e and f are sections 0 and i as parts of the record.
+use denote.Ref.{now}
+use mathlib.Core.Path.{_≡_}
 use borrow.Author.Needs.{needs}
-use borrow.Author.Tests.{le-leb, lt-leb}
-use Rattle.positions.specs.Limit.{limited}
+use Rattle.model.specs.Layout.{section, size}
+use Rattle.positions.proofs.Limited.{over-limit, within-limit}
 use Rattle.record.proofs.Parts.{span-section, span-low, span-high}
 use Rattle.justify.proofs.committing.Statement.{statement}
 use Rattle.justify.proofs.committing.Tie as tie
@@ -24,24 +26,20 @@ part-f-start c = span-low _ _ _ (c .before .bounds2 .ensures)
 part-f-end : tie.Need-part-f-end
 part-f-end c = span-high _ _ _ (c .before .bounds2 .ensures)
 
+-- the counts are those of the sections
+count : (c : tie.After-size) → c .size .result ≡ size (section (now (c .before .before .before .before .before .before .before .before .args .r)) 0)
+count c = rw (span-section _ _ _ (c .before .before .before .before .bounds .ensures)) at (c .size .ensures)
+
+own-count : (c : tie.After-size2) → c .size2 .result ≡ size (section (now (c .before .before .before .before .before .before .before .before .before .before .args .r)) (c .before .before .before .before .before .before .before .before .before .before .args .i))
+own-count c = rw (span-section _ _ _ (c .before .before .before .before .before .bounds2 .ensures)) at (c .size2 .ensures)
+
 returns : tie.Need-returns
-unfolding limited
-returns c =
-    rw (← (span-section _ _ _ (c .before .before .before .before .before .before .bounds .ensures)), ← (c .before .before .size .ensures), lt-leb _ _ (c .before .if1 .taken))
-    (c .numbered .ensures)
+returns c = over-limit _ _ (count (c .before .before)) (c .before .if1 .taken) (c .numbered .ensures)
 
 returns-2 : tie.Need-returns-2
-unfolding limited
 returns-2 c =
-    rw (
-      ← (span-section _ _ _ (c .before .before .before .before .before .before .before .before .bounds .ensures)),
-      ← (c .before .before .before .before .size .ensures),
-      le-leb _ _ (c .before .before .before .if1 .left),
-      ← (span-section _ _ _ (c .before .before .before .before .before .before .before .bounds2 .ensures)),
-      ← (c .before .before .size2 .ensures),
-      lt-leb _ _ (c .before .if2 .taken),
-    )
-    (c .numbered2 .ensures)
+    within-limit _ _ (count (c .before .before .before .before)) (c .before .before .before .if1 .left)
+    (over-limit _ _ (own-count (c .before .before)) (c .before .if2 .taken) (c .numbered2 .ensures))
 
 with-tables-requires : tie.Need-with-tables-requires
 with-tables-requires c κs = (
@@ -52,17 +50,9 @@ with-tables-requires c κs = (
 )
 
 returns-3 : tie.Need-returns-3
-unfolding limited
 returns-3 c =
-    rw (
-      ← (span-section _ _ _ (c .before .before .before .before .before .before .before .before .bounds .ensures)),
-      ← (c .before .before .before .before .size .ensures),
-      le-leb _ _ (c .before .before .before .if1 .left),
-      ← (span-section _ _ _ (c .before .before .before .before .before .before .before .bounds2 .ensures)),
-      ← (c .before .before .size2 .ensures),
-      le-leb _ _ (c .before .if2 .left),
-    )
-    (c .with-tables .ensures)
+    within-limit _ _ (count (c .before .before .before .before)) (c .before .before .before .if1 .left)
+    (within-limit _ _ (own-count (c .before .before)) (c .before .if2 .left) (c .with-tables .ensures))
 
 pub committing-spec : {M : Type 1} → statement M
 committing-spec =

@@ -9,23 +9,23 @@ use mathlib.Core.Logic.{_⊎_, inl, inr, ⊎-elim}
 use lib.ListN.{length}
 use lib.Dec.{eqb, ltb, leb}
 use borrow.Author.Tests.{lt-ltb, le-leb, lt-leb, eq-eqb, ne-eqb, eqb-true, ltb-true, leb-true}
-use Rattle.model.specs.Limits.{maxActions, rowWords, partWords}
+use Rattle.model.specs.Limits.{maxActions, partWords}
 use Rattle.model.specs.Search.{any}
-use Rattle.model.specs.Layout.{size, thread, kind}
+use Rattle.model.specs.Layout.{size, thread}
 use Rattle.model.specs.Relations.{po, sw, edge, reach, hb}
 use Rattle.model.specs.WorkArea.{part}
-use Rattle.model.proofs.Search.{any-at}
-use Rattle.model.proofs.Closure.{Path⁺, one, join, via, Through, via-within, via-reach, edge-within, or-cases}
-use Rattle.rows.specs.Steps.{rounded}
-use Rattle.rows.proofs.Steps.{rounded-rows}
-use Rattle.hb.specs.Listing.{receives, entry, Listed}
-use Rattle.lined.specs.Line.{unfit, late, lined, filled}
-use Rattle.lined.specs.Passing.{held}
-use Rattle.lined.proofs.Searches.{any-elim}
-use Rattle.lined.proofs.Passing.{table-same}
-use Rattle.hb.specs.Passing.{hands, leads}
-use Rattle.hb.specs.Edges.{rounds, happens}
-use Rattle.hb.proofs.Listing.{entry-inside}
+use Rattle.model.proofs.Bools.{either}
+use Rattle.model.proofs.Search.{any-at, any-elim}
+use Rattle.model.proofs.Closure.{Path⁺, one, join, via, Through, via-within, via-reach, edge-within}
+use Rattle.rows.specs.Part.{rounded, table}
+use Rattle.rows.proofs.Part.{table-same, table-rounded}
+use Rattle.positions.specs.Lists.{takers, listed, Listed}
+use Rattle.positions.specs.declared.lists.Positions.{Positions}
+use Rattle.positions.proofs.Sets.{are-takers}
+use Rattle.positions.proofs.Listing.{listed-at, listed-has, is-listed}
+use Rattle.lined.specs.Line.{unfit, late, lined, lined-part}
+use Rattle.hb.specs.Passing.{receives, hands, leads}
+use Rattle.hb.specs.Edges.{entry, rounds, happens}
 use Rattle.hb.proofs.Hands.{hands-to}
 
 module _ (x : List ℕ) where
@@ -83,7 +83,7 @@ module _ (x : List ℕ) where
   edge-led a b h =
       let (p, q) = edge-within x a b h in
       led-out a b p q
-      (⊎-elim (λ s. rw s) (λ w. rw (hands-out a (thread x a) b a p (omega arith) refl w) (or-true (po x a b))) (or-cases (po x a b) (sw x a b) (edge-in a b h)))
+      (⊎-elim (λ s. rw s) (λ w. rw (hands-out a (thread x a) b a p (omega arith) refl w) (or-true (po x a b))) (either (po x a b) (sw x a b) (edge-in a b h)))
 
   led-edges : (a b : ℕ) → led a b ≡ true → Path⁺ (edge x) a b
   led-edges a b h =
@@ -94,10 +94,10 @@ module _ (x : List ℕ) where
       (λ (e : a ≡ c). one (edge-out a b p q (rw (e, v) (or-true (po x c b)))))
       (λ (k : a < c). join (one (edge-out a c p l (rw (po-out a c k t)))) (one (edge-out c b l q (rw v (or-true (po x c b))))))
       (eq-or-lt-of-le m)))
-      (or-cases (po x a b) (hands x n a (thread x a) b) s)
+      (either (po x a b) (hands x n a (thread x a) b) s)
 
   -- a way to a position that receives nothing comes by program order
-  through : (c : ℕ) → receives (kind x c) ≡ false → Through led c
+  through : (c : ℕ) → receives x c ≡ false → Through led c
   through c r a b f g =
       let (p, _, s) = led-in a c f in
       let (_, q, t) = led-in c b g in
@@ -106,32 +106,36 @@ module _ (x : List ℕ) where
       (⊎-elim
       (λ o. let (l, v) = po-in c b o in rw (po-out a b (omega arith) (u ∙ v)))
       (λ w. hands-in c (thread x c) b w (λ d l m v e. rw (hands-out a (thread x a) b d l (omega arith) (u ∙ v) e) (or-true (po x a b))))
-      (or-cases (po x c b) (hands x n c (thread x c) b) t))
+      (either (po x c b) (hands x n c (thread x c) b) t))
 
-  module _ (at : List ℕ) (m : ℕ) (few : n ≤ maxActions) (list : Listed x n at m) where
+  module _ (at : List ℕ) (m : ℕ) (few : n ≤ maxActions) (list : Listed (receives x) n at m) where
     cover : (c : ℕ) → c < n → (any m (λ i. eqb c (entry at i)) ≡ true) ⊎ Through led c
-    cover c h = by (receives (kind x c)) refl
+    cover c h = by (receives x c) refl
       where
-        by : (t : Bool) → receives (kind x c) ≡ t → (any m (λ i. eqb c (entry at i)) ≡ true) ⊎ Through led c
-        by true s = inl (list .exactly c ∙ rw (s, lt-ltb c n h))
+        by : (t : Bool) → receives x c ≡ t → (any m (λ i. eqb c (entry at i)) ≡ true) ⊎ Through led c
+        by true s = inl (listed-has list c ∙ rw (s, lt-ltb c n h))
         by false s = inr (through c s)
 
     within : (a b : ℕ) → led a b ≡ true → (a < n) × (b < n)
     within a b h = let (p, q, _) = led-in a b h in (p, q)
 
-    rounds-rows : (i : ℕ) → i ≤ m → rounds n at i (held led) ≡ held (via led (entry at) i)
+    rounds-rows : (i : ℕ) → i ≤ m → rounds n at i (table maxActions led) ≡ table maxActions (via led (entry at) i)
     unfolding rounds via
     rounds-rows zero h = refl
     rounds-rows (suc i) h =
-        ap (λ (ws : List ℕ). rounded rowWords ws n (entry at i)) (rounds-rows i (omega arith))
-        ∙ rounded-rows rowWords maxActions (via led (entry at) i) n (entry at i) (omega arith) few few
-        (via-within led (entry at) n within i) (entry-inside x n at m list i (omega arith))
+        ap (λ (ws : List ℕ). rounded ws n (entry at i)) (rounds-rows i (omega arith))
+        ∙ table-rounded maxActions (via led (entry at) i) n (entry at i) few few (via-within led (entry at) n within i)
+        (listed-at list i (omega arith) .0)
 
-    rounds-part : rounds n at m (held led) ≡ part x
+    rounds-part : rounds n at m (table maxActions led) ≡ part x
     unfolding part hb
     rounds-part =
         rounds-rows m (omega arith)
         ∙ table-same maxActions _ (reach (edge x) n) (via-reach (edge x) led n within edge-led led-edges (entry at) m cover)
+
+-- the list of those that receive
+pub receivers : (x : List ℕ) {k : ℕ} {p : Positions} → k ≡ size x → k ≤ maxActions → p ≡ listed x takers → Listed (receives x) k (p .at) (p .count)
+receivers x e h l = rw (l, e) (is-listed x takers (are-takers x) (omega arith))
 
 module _ (x ws : List ℕ) where
   pub happens-part : length ws ≡ partWords → size x ≤ maxActions → happens x ws ≡ part x
@@ -140,8 +144,8 @@ module _ (x ws : List ℕ) where
 
   -- the three steps
   pub happens-by :
-      {k m : ℕ} {at us vs : List ℕ} → length ws ≡ partWords → k ≡ size x → k ≤ maxActions → Listed x k at m → us ≡ held (leads x k 0) →
-      vs ≡ rounds k at m us → vs ≡ happens x ws
+      {k m : ℕ} {at us vs : List ℕ} → length ws ≡ partWords → k ≡ size x → k ≤ maxActions → Listed (receives x) k at m →
+      us ≡ table maxActions (leads x k 0) → vs ≡ rounds k at m us → vs ≡ happens x ws
   happens-by {k} {m} {at} l e h list swept closing =
       rw (closing, swept, e) (rounds-part x at m (omega arith) (rw e at list) ∙ sym (happens-part l (omega arith)))
 
@@ -160,12 +164,12 @@ module _ (x ws : List ℕ) where
       let (rest, _) = and-eq-true-iff (eqb (length ws) partWords && leb (size x) maxActions && not (any (size x) (unfit x))) (not (any (size x) (late x))) .0 h in
       and-eq-true-iff (eqb (length ws) partWords && leb (size x) maxActions) (not (any (size x) (unfit x))) .0 rest .0
 
-  module _ {t : Bool} {us : List ℕ} (told : t ≡ lined x ws) (e : us ≡ filled x ws) where
+  module _ {t : Bool} {us : List ℕ} (told : t ≡ lined x ws) (e : us ≡ lined-part x ws) where
     pub happens-lined : t ≡ true → us ≡ happens x ws
-    unfolding filled happens
+    unfolding lined-part happens
     happens-lined h = e ∙ rw (sym told ∙ h, lined-fits (sym told ∙ h))
 
     -- and the words of another stay
     pub other-kept : t ≡ false → us ≡ ws
-    unfolding filled
+    unfolding lined-part
     other-kept h = e ∙ rw (sym told ∙ h)

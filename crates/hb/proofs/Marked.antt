@@ -7,17 +7,16 @@ use mathlib.Core.List.{List}
 use mathlib.Core.Bool.{Bool, true, false, cond, _&&_, _||_, or-false, or-assoc, and-assoc, and-false}
 use lib.Dec.{eqb, ltb}
 use borrow.Author.Tests.{eq-eqb, ne-eqb}
-use Rattle.model.specs.Limits.{maxActions, rowWords, partWords}
+use Rattle.model.specs.Limits.{maxActions}
 use Rattle.model.specs.Search.{any}
-use Rattle.model.specs.Layout.{kind}
 use Rattle.model.specs.Relations.{sw}
-use Rattle.rows.specs.Steps.{marked}
-use Rattle.rows.proofs.Marked.{marked-rows}
-use Rattle.hb.specs.Listing.{receives, entry, Listed}
-use Rattle.lined.specs.Passing.{held}
-use Rattle.lined.proofs.Passing.{table-same}
-use Rattle.hb.specs.Edges.{from}
-use Rattle.hb.proofs.Laws.{sw-received}
+use Rattle.rows.specs.Part.{marked, table}
+use Rattle.rows.proofs.Part.{table-same, table-marked}
+use Rattle.positions.specs.Lists.{Listed}
+use Rattle.positions.proofs.Listing.{listed-has}
+use Rattle.hb.specs.Passing.{receives}
+use Rattle.hb.specs.Edges.{entry, from}
+use Rattle.hb.proofs.Hands.{sw-received}
 
 module _ (x at : List ℕ) where
   -- c synchronizes with d, where these are a and an entry of the list
@@ -48,7 +47,7 @@ module _ (x at : List ℕ) where
               ]
         ]
 
-  from-rows : (a m : ℕ) (p : ℕ → ℕ → Bool) → from x at a m (held p) ≡ held (λ c d. p c d || any m (to-entry a c d))
+  from-rows : (a m : ℕ) (p : ℕ → ℕ → Bool) → from x at a m (table maxActions p) ≡ table maxActions (λ c d. p c d || any m (to-entry a c d))
   unfolding from any
   from-rows a zero p = table-same maxActions p (λ c d. p c d || false) (λ c d. sym (or-false (p c d)))
   from-rows a (suc j) p = step (sw x a (entry at j)) refl (from-rows a j p)
@@ -56,11 +55,11 @@ module _ (x at : List ℕ) where
       so-far : ℕ → ℕ → Bool
       so-far c d = p c d || any j (to-entry a c d)
 
-      step : (t : Bool) → sw x a (entry at j) ≡ t → from x at a j (held p) ≡ held so-far →
-          cond t (marked rowWords (from x at a j (held p)) a (entry at j)) (from x at a j (held p)) ≡ held (λ c d. p c d || (any j (to-entry a c d) || to-entry a c d j))
+      step : (t : Bool) → sw x a (entry at j) ≡ t → from x at a j (table maxActions p) ≡ table maxActions so-far →
+          cond t (marked (from x at a j (table maxActions p)) a (entry at j)) (from x at a j (table maxActions p)) ≡ table maxActions (λ c d. p c d || (any j (to-entry a c d) || to-entry a c d j))
       step true e h =
-          ap (λ (ws : List ℕ). marked rowWords ws a (entry at j)) h
-          ∙ marked-rows rowWords partWords so-far a (entry at j) (omega arith)
+          ap (λ (ws : List ℕ). marked ws a (entry at j)) h
+          ∙ table-marked maxActions so-far a (entry at j)
           ∙ table-same maxActions _ _ (λ c d. or-assoc (p c d) (any j (to-entry a c d)) _ ∙ rw (more-edge a j p e c d))
       step false e h =
           h ∙ table-same maxActions _ _ (λ c d. rw (← more-kept a j p e c d, or-false))
@@ -80,8 +79,8 @@ any-part (suc m) s q t = rw (any-part m s q t) (join s (any m q) (q m) t)
 
 -- the edges to all of the list are all from a
 pub from-listed :
-    (x : List ℕ) (n : ℕ) (at : List ℕ) (m : ℕ) → Listed x n at m → (a : ℕ) (p : ℕ → ℕ → Bool) →
-    from x at a m (held p) ≡ held (λ c d. p c d || eqb c a && (ltb d n && sw x a d))
+    (x : List ℕ) (n : ℕ) (at : List ℕ) (m : ℕ) → Listed (receives x) n at m → (a : ℕ) (p : ℕ → ℕ → Bool) →
+    from x at a m (table maxActions p) ≡ table maxActions (λ c d. p c d || eqb c a && (ltb d n && sw x a d))
 from-listed x n at m list a p = from-rows x at a m p ∙ table-same maxActions _ _ (λ c d. ap (λ (t : Bool). p c d || t) (whole c d))
   where
     own : (c d : ℕ) → eqb c a && (ltb d n && sw x c d) ≡ eqb c a && (ltb d n && sw x a d)
@@ -94,4 +93,4 @@ from-listed x n at m list a p = from-rows x at a m p ∙ table-same maxActions _
     whole : (c d : ℕ) → any m (to-entry x at a c d) ≡ eqb c a && (ltb d n && sw x a d)
     whole c d =
         any-part m (eqb c a) (λ j. eqb d (entry at j)) (sw x c d)
-        ∙ rw (list .exactly d, and-assoc (ltb d n) (receives (kind x d)) (sw x c d), sw-received x c d) (own c d)
+        ∙ rw (listed-has list d, and-assoc (ltb d n) (receives x d) (sw x c d), sw-received x c d) (own c d)

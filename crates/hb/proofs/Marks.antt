@@ -1,41 +1,38 @@
 -- The words while the edges are marked and the rounds are made, one after another.
 use Prim.Native.Nat.{ℕ, zero, suc, _+_}
 use native.Mathlib.Numerals.{add-one}
-use mathlib.Core.Path.{_≡_, refl, sym, _∙_}
+use mathlib.Core.Path.{_≡_, refl, sym, ap, _∙_}
 use mathlib.Core.List.{List}
 use mathlib.Core.Bool.{Bool, true, false, cond}
 use lib.ListN.{length}
-use Rattle.model.specs.Limits.{rowWords}
+use Rattle.model.specs.Kinds.{nothing-given}
 use Rattle.model.specs.Relations.{sw}
-use Rattle.rows.specs.Steps.{marked, rounded}
+use Rattle.rows.specs.Part.{marked, rounded}
 use Rattle.rows.proofs.Marked.{length-marked}
 use Rattle.rows.proofs.Steps.{length-rounded}
-use Rattle.hb.specs.Listing.{entry}
-use Rattle.hb.specs.Edges.{wanted, meets, from, rounds}
-use Rattle.hb.specs.declared.Wanted.{Wanted}
-use Rattle.hb.specs.declared.Wanted.the-variants.{Nothing}
-use Rattle.hb.proofs.Laws.{meets-sw}
+use Rattle.relations.specs.declared.Offer.{Offer}
+use Rattle.relations.specs.Objects.{given, offered, accepts}
+use Rattle.relations.proofs.Objects.{accepts-sw, sw-nothing-given}
+use Rattle.hb.specs.Edges.{entry, from, rounds}
 
 module _ (x at : List ℕ) (a : ℕ) (ws : List ℕ) where
   pub from-none : from x at a 0 ws ≡ ws
   unfolding from
   from-none = refl
 
-  -- an action that asks for nothing has no edges
-  pub from-nothing : {w : Wanted} → w ≡ wanted x a → w ≡ Nothing → (m : ℕ) → ws ≡ from x at a m ws
-  unfolding from meets
+  -- an action that gives nothing has no edges
+  pub from-nothing : {w : Offer} → w ≡ offered x a → w .class ≡ nothing-given → (m : ℕ) → ws ≡ from x at a m ws
+  unfolding from given offered
   from-nothing e h zero = refl
-  from-nothing e h (suc j) = rw none (from-nothing e h j)
-    where
-      none : sw x a (entry at j) ≡ false
-      none = sym (meets-sw x a (entry at j)) ∙ rw (sym e ∙ h)
+  from-nothing e h (suc j) =
+      rw (sw-nothing-given x a (entry at j) (ap (λ (w : Offer). w .class) (sym e) ∙ h)) (from-nothing e h j)
 
-  -- one entry more, where t is whether it is what a asks
-  module _ (j : ℕ) {us : List ℕ} {w : Wanted} {t : Bool} (so-far : us ≡ from x at a j ws) (asks : w ≡ wanted x a) (e : t ≡ meets x w (entry at j)) where
+  -- one entry more, where t is whether it accepts what a offers
+  module _ (j : ℕ) {us : List ℕ} {w : Offer} {t : Bool} (so-far : us ≡ from x at a j ws) (offers : w ≡ offered x a) (e : t ≡ accepts x w (entry at j)) where
     found : t ≡ sw x a (entry at j)
-    found = e ∙ rw asks (meets-sw x a (entry at j))
+    found = e ∙ rw offers (accepts-sw x a (entry at j))
 
-    pub from-edge : t ≡ true → marked rowWords us a (entry at j) ≡ from x at a (j + 1) ws
+    pub from-edge : t ≡ true → marked us a (entry at j) ≡ from x at a (j + 1) ws
     unfolding from
     from-edge h = rw (add-one, sym found ∙ h, so-far)
 
@@ -50,8 +47,8 @@ module _ (x at : List ℕ) (a : ℕ) (ws : List ℕ) where
     where
       step :
           (t : Bool) → length (from x at a j ws) ≡ length ws →
-          length (cond t (marked rowWords (from x at a j ws) a (entry at j)) (from x at a j ws)) ≡ length ws
-      step true h = length-marked rowWords (from x at a j ws) a (entry at j) ∙ h
+          length (cond t (marked (from x at a j ws) a (entry at j)) (from x at a j ws)) ≡ length ws
+      step true h = length-marked _ (from x at a j ws) a (entry at j) ∙ h
       step false h = h
 
 module _ (n : ℕ) (at ws : List ℕ) where
@@ -59,11 +56,11 @@ module _ (n : ℕ) (at ws : List ℕ) where
   unfolding rounds
   rounds-none = refl
 
-  pub rounds-more : (i : ℕ) {us : List ℕ} → us ≡ rounds n at i ws → rounded rowWords us n (entry at i) ≡ rounds n at (i + 1) ws
+  pub rounds-more : (i : ℕ) {us : List ℕ} → us ≡ rounds n at i ws → rounded us n (entry at i) ≡ rounds n at (i + 1) ws
   unfolding rounds
   rounds-more i so-far = rw (add-one i, so-far)
 
   pub length-rounds : (i : ℕ) → length (rounds n at i ws) ≡ length ws
   unfolding rounds
   length-rounds zero = refl
-  length-rounds (suc i) = length-rounded rowWords (rounds n at i ws) n (entry at i) ∙ length-rounds i
+  length-rounds (suc i) = length-rounded _ (rounds n at i ws) n (entry at i) ∙ length-rounds i

@@ -8,17 +8,13 @@ use mathlib.Core.Bool.{Bool, true, false, _&&_, _||_, true≢false, or-true, or-
 use lib.ListN.{replicate}
 use lib.Dec.{eqb, ltb, leb}
 use borrow.Author.Tests.{lt-ltb, le-ltb, le-leb, lt-leb, eq-eqb, ne-eqb}
-use Rattle.model.specs.Limits.{maxActions, rowWords, partWords}
+use Rattle.model.specs.Limits.{maxActions, partWords}
 use Rattle.model.specs.Layout.{thread}
 use Rattle.model.specs.Relations.{po, sw}
-use Rattle.rows.specs.Steps.{marked, joined}
-use Rattle.rows.proofs.Cleared.{cleared-rows}
-use Rattle.rows.proofs.Marked.{marked-rows}
-use Rattle.rows.proofs.Steps.{joined-rows}
-use Rattle.hb.specs.Listing.{Listed}
-use Rattle.lined.specs.Passing.{held}
-use Rattle.lined.proofs.Passing.{table, table-same}
-use Rattle.hb.specs.Passing.{hands, passed, leads}
+use Rattle.rows.specs.Part.{marked, joined, table}
+use Rattle.rows.proofs.Part.{table-same, table-cleared, table-marked, table-joined}
+use Rattle.positions.specs.Lists.{Listed}
+use Rattle.hb.specs.Passing.{receives, hands, passed, leads}
 use Rattle.hb.specs.Edges.{from}
 use Rattle.hb.proofs.Hands.{hands-none, hands-more}
 use Rattle.hb.proofs.Marked.{from-listed}
@@ -32,13 +28,13 @@ module _ (x : List ℕ) (n : ℕ) where
         | no g ↦ rw (le-ltb c n (omega arith)) (and-false (leb n c))
       ]
 
-  pub sweep-none : {k : ℕ} → k ≡ partWords → replicate k 0 ≡ held (leads x n n)
+  pub sweep-none : {k : ℕ} → k ≡ partWords → replicate k 0 ≡ table maxActions (leads x n n)
   sweep-none e =
-      rw e (cleared-rows rowWords partWords (omega arith) ∙ table-same maxActions (λ c d. false) (leads x n n) (λ c d. rw (beyond c)))
+      rw e (table-cleared maxActions ∙ table-same maxActions (λ c d. false) (leads x n n) (λ c d. rw (beyond c)))
 
-  pub later-none : replicate (rowWords * 256) 0 ≡ table 256 (passed x n n)
+  pub later-none : replicate 512 0 ≡ table 256 (passed x n n)
   later-none =
-      cleared-rows rowWords (rowWords * 256) (omega arith)
+      table-cleared 256
       ∙ table-same 256 (λ c d. false) (passed x n n) (λ t d. rw (hands-none x n t d) (turned (leb n d) (ltb d n) (eqb t (thread x d)) (beyond d)))
     where
       turned : (p q r : Bool) → p && q ≡ false → false ≡ q && (p && r || false)
@@ -117,16 +113,16 @@ module _ (x : List ℕ) (n : ℕ) where
 
     module _ (later : List ℕ) (by-thread : later ≡ table 256 (passed x n s)) (byte : t < 256) (few : n ≤ maxActions) where
       pub sweep-more :
-          {at : List ℕ} {m : ℕ} → Listed x n at m → {part us vs : List ℕ} → part ≡ held (leads x n s) → us ≡ joined rowWords part a later t → vs ≡ from x at a m us →
-          vs ≡ held (leads x n a)
+          {at : List ℕ} {m : ℕ} → Listed (receives x) n at m → {part us vs : List ℕ} → part ≡ table maxActions (leads x n s) → us ≡ joined part a later t → vs ≡ from x at a m us →
+          vs ≡ table maxActions (leads x n a)
       sweep-more {at} {m} list h j f =
           rw (f, j, h, by-thread)
-          (ap (from x at a m) (joined-rows rowWords partWords (leads x n s) a (rowWords * 256) (passed x n s) t (omega arith) (omega arith) (omega arith))
+          (ap (from x at a m) (table-joined maxActions (leads x n s) a 256 (passed x n s) t (omega arith) byte)
           ∙ from-listed x n at m list a _ ∙ table-same maxActions _ (leads x n a) row)
 
       pub later-more :
-          {part us : List ℕ} → part ≡ held (leads x n a) → us ≡ joined rowWords later t part a → marked rowWords us t a ≡ table 256 (passed x n a)
+          {part us : List ℕ} → part ≡ table maxActions (leads x n a) → us ≡ joined later t part a → marked us t a ≡ table 256 (passed x n a)
       later-more h j =
           rw (j, by-thread, h)
-          (ap (λ (ws : List ℕ). marked rowWords ws t a) (joined-rows rowWords (rowWords * 256) (passed x n s) t partWords (leads x n a) a (omega arith) (omega arith) (omega arith))
-          ∙ marked-rows rowWords (rowWords * 256) _ t a (omega arith) ∙ table-same 256 _ (passed x n a) column)
+          (ap (λ (ws : List ℕ). marked ws t a) (table-joined 256 (passed x n s) t maxActions (leads x n a) a byte (omega arith))
+          ∙ table-marked 256 _ t a ∙ table-same 256 _ (passed x n a) column)

@@ -1,4 +1,3 @@
 -- What a section's part holds, step by step.
 pub mod Passing
-pub mod Listing
 pub mod Edges

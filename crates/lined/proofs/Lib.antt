@@ -1,8 +1,6 @@
 -- Laws of sections in line, and of the sweep over one.
-pub mod Searches
 pub mod Objects
 pub mod Line
 pub mod Edges
-pub mod Bit
 pub mod Passing
 pub mod Unique

@@ -1,210 +1,88 @@
--- The objects of actions, kind by kind.
-use Prim.Native.Nat.{ℕ, _+_, _<_, _≤_}
-use native.Mathlib.Decide.{ℕ-discrete}
-use native.Mathlib.Nat.{zero-add}
+-- What the table of kinds says of the objects that actions give and take, and that their rows tell them apart.
+use Prim.Native.Nat.{ℕ, _<_}
+use native.Mathlib.Decide.{decLt}
 use native.Mathlib.Omega.{arith}
-use mathlib.Core.Path.{_≡_, refl, sym, _∙_}
-use mathlib.Core.List.{List, [], _∷_}
-use mathlib.Core.Bool.{Bool, true, false, not, cond, _&&_}
-use lib.ListN.{getD}
-use lib.Dec.{eqb}
-use borrow.Author.Tests.{eq-eqb, ne-eqb, eqb-true, not-false}
+use mathlib.Core.Path.{_≡_, refl}
+use mathlib.Core.List.{List}
+use mathlib.Core.Bool.{Bool, true, false, not, _&&_, Bool·beq}
+use lib.Dec.{eqb, ltb}
+use borrow.Author.Tests.{lt-ltb, le-ltb, eq-eqb, eqb-true, eqb-false, ltb-true, not-true}
 use Rattle.model.specs.Search.{any}
-use Rattle.model.proofs.Search.{any-not}
-use Rattle.model.specs.Layout.{thread, kind, target}
-use Rattle.lined.specs.Objects.{given, taken, gives, takes}
-
--- kind by kind
-module _ (k : ℕ) where
-  pub given-listed : k < 12 → getD (256 ∷ 256 ∷ 256 ∷ 256 ∷ 0 ∷ 256 ∷ 64 ∷ 128 ∷ 256 ∷ 192 ∷ 256 ∷ 256 ∷ []) k 0 ≡ given k
-  unfolding any given
-  given-listed h =
-      eqb-true _ (given k) (not-false _ (any-not (λ j. not (eqb (getD (256 ∷ 256 ∷ 256 ∷ 256 ∷ 0 ∷ 256 ∷ 64 ∷ 128 ∷ 256 ∷ 192 ∷ 256 ∷ 256 ∷ []) j 0) (given j))) 12 k h refl))
-
-  pub taken-listed : k < 12 → getD (257 ∷ 257 ∷ 257 ∷ 0 ∷ 257 ∷ 64 ∷ 257 ∷ 257 ∷ 128 ∷ 257 ∷ 192 ∷ 257 ∷ []) k 0 ≡ taken k
-  unfolding any taken
-  taken-listed h =
-      eqb-true _ (taken k) (not-false _ (any-not (λ j. not (eqb (getD (257 ∷ 257 ∷ 257 ∷ 0 ∷ 257 ∷ 64 ∷ 257 ∷ 257 ∷ 128 ∷ 257 ∷ 192 ∷ 257 ∷ []) j 0) (taken j))) 12 k h refl))
-
-  pub given-none : (k ≡ 4 → ⊥) → (k ≡ 6 → ⊥) → (k ≡ 7 → ⊥) → (k ≡ 9 → ⊥) → 256 ≡ given k
-  unfolding given
-  given-none p q r s = simp (ne-eqb k 4 p, ne-eqb k 6 q, ne-eqb k 7 r, ne-eqb k 9 s)
-
-  pub taken-none : (k ≡ 3 → ⊥) → (k ≡ 5 → ⊥) → (k ≡ 8 → ⊥) → (k ≡ 10 → ⊥) → 257 ≡ taken k
-  unfolding taken
-  taken-none p q r s = simp (ne-eqb k 3 p, ne-eqb k 5 q, ne-eqb k 8 r, ne-eqb k 10 s)
-
-  pub given-most : given k ≤ 257
-  unfolding given
-  given-most = step (eqb k 4) (eqb k 6) (eqb k 7) (eqb k 9)
-    where
-      step : (p q r s : Bool) → cond p 0 (cond q 64 (cond r 128 (cond s 192 256))) ≤ 257
-      step true q r s = omega arith
-      step false true r s = omega arith
-      step false false true s = omega arith
-      step false false false true = omega arith
-      step false false false false = omega arith
-
-  pub taken-most : taken k ≤ 257
-  unfolding taken
-  taken-most = step (eqb k 3) (eqb k 5) (eqb k 8) (eqb k 10)
-    where
-      step : (p q r s : Bool) → cond p 0 (cond q 64 (cond r 128 (cond s 192 257))) ≤ 257
-      step true q r s = omega arith
-      step false true r s = omega arith
-      step false false true s = omega arith
-      step false false false true = omega arith
-      step false false false false = omega arith
+use Rattle.model.specs.Kinds.{kindRow}
+use Rattle.model.specs.Layout.{kind, row}
+use Rattle.model.proofs.Bools.{both, same-truth, same-bool}
+use Rattle.model.proofs.Synchronizes.{every-row}
+use Rattle.relations.specs.declared.Object.{Object}
+use Rattle.relations.specs.Objects.{given, taken}
+use Rattle.lined.specs.Line.{slot, given-row, taken-row}
 
 module _ (x : List ℕ) (a : ℕ) where
-  gives-4 : kind x a ≡ 4 → gives x a ≡ target x a
-  unfolding gives given
-  gives-4 e = rw (e, zero-add)
+  given-class : given x a .class < 5
+  unfolding given any kindRow
+  given-class = ltb-true _ 5 (every-row (λ k. ltb (k .gives .class) 5) refl (kind x a))
 
-  gives-6 : kind x a ≡ 6 → gives x a ≡ 64 + target x a
-  unfolding gives given
-  gives-6 e = rw e
+  taken-class : taken x a .class < 6
+  unfolding taken any kindRow
+  taken-class = ltb-true _ 6 (every-row (λ k. ltb (k .takes .class) 6) refl (kind x a))
 
-  gives-7 : kind x a ≡ 7 → gives x a ≡ 128 + target x a
-  unfolding gives given
-  gives-7 e = rw e
+  taken-some : taken x a .class ≡ 4 → ⊥
+  unfolding taken any kindRow
+  taken-some = eqb-false _ 4 (not-true _ (every-row (λ k. not (eqb (k .takes .class) 4)) refl (kind x a)))
 
-  gives-9 : kind x a ≡ 9 → gives x a ≡ 192 + thread x a
-  unfolding gives given
-  gives-9 e = rw e
+  -- the class says whether places decide
+  pub given-placed : row x a .gives .placed ≡ ltb (given x a .class) 2
+  unfolding given any kindRow
+  given-placed = same-bool _ _ (every-row (λ k. Bool·beq (k .gives .placed) (ltb (k .gives .class) 2)) refl (kind x a))
 
-  gives-none : (kind x a ≡ 4 → ⊥) → (kind x a ≡ 6 → ⊥) → (kind x a ≡ 7 → ⊥) → (kind x a ≡ 9 → ⊥) → gives x a ≡ 256
-  unfolding gives
-  gives-none p q r s = rw (← given-none (kind x a) p q r s)
+  pub taken-placed : row x a .takes .placed ≡ ltb (taken x a .class) 2
+  unfolding taken any kindRow
+  taken-placed = same-bool _ _ (every-row (λ k. Bool·beq (k .takes .placed) (ltb (k .takes .class) 2)) refl (kind x a))
 
-  takes-3 : kind x a ≡ 3 → takes x a ≡ target x a
-  unfolding takes taken
-  takes-3 e = rw (e, zero-add)
+  -- no action takes what it gives
+  pub own-class : eqb (given x a .class) (taken x a .class) ≡ false
+  unfolding given taken any kindRow
+  own-class = not-true _ (every-row (λ k. not (eqb (k .gives .class) (k .takes .class))) refl (kind x a))
 
-  takes-5 : kind x a ≡ 5 → takes x a ≡ 64 + target x a
-  unfolding takes taken
-  takes-5 e = rw e
+slot-below : (o : Object) → o .class < 6 → o .number < 64 → slot o < 258
+unfolding slot
+slot-below o c n =
+    elim (decLt (o .class) 4) [
+      | yes h ↦ rw (lt-ltb (o .class) 4 h) (omega arith)
+      | no g ↦ rw (le-ltb (o .class) 4 (omega arith)) (omega arith)
+    ]
 
-  takes-8 : kind x a ≡ 8 → takes x a ≡ 128 + thread x a
-  unfolding takes taken
-  takes-8 e = rw e
-
-  takes-10 : kind x a ≡ 10 → takes x a ≡ 192 + target x a
-  unfolding takes taken
-  takes-10 e = rw e
-
-  takes-none : (kind x a ≡ 3 → ⊥) → (kind x a ≡ 5 → ⊥) → (kind x a ≡ 8 → ⊥) → (kind x a ≡ 10 → ⊥) → takes x a ≡ 257
-  unfolding takes
-  takes-none p q r s = rw (← taken-none (kind x a) p q r s)
-
--- what holds of each class of objects holds of what a gives, and of what it takes
-module _ (x : List ℕ) (a : ℕ) {R : Type 0} where
-  pub by-gives :
-      (kind x a ≡ 4 → gives x a ≡ target x a → R) → (kind x a ≡ 6 → gives x a ≡ 64 + target x a → R) → (kind x a ≡ 7 → gives x a ≡ 128 + target x a → R) →
-      (kind x a ≡ 9 → gives x a ≡ 192 + thread x a → R) →
-      ((kind x a ≡ 4 → ⊥) → (kind x a ≡ 6 → ⊥) → (kind x a ≡ 7 → ⊥) → (kind x a ≡ 9 → ⊥) → gives x a ≡ 256 → R) → R
-  by-gives f g h i j =
-      elim (ℕ-discrete (kind x a) 4) [
-        | yes e ↦ f e (gives-4 x a e)
-        | no p ↦
-            elim (ℕ-discrete (kind x a) 6) [
-              | yes e ↦ g e (gives-6 x a e)
-              | no q ↦
-                  elim (ℕ-discrete (kind x a) 7) [
-                    | yes e ↦ h e (gives-7 x a e)
-                    | no r ↦
-                        elim (ℕ-discrete (kind x a) 9) [
-                          | yes e ↦ i e (gives-9 x a e)
-                          | no s ↦ j p q r s (gives-none x a p q r s)
-                        ]
-                  ]
+-- what is given and what is taken: of one row where they are one object
+module _ (o p : Object) (given : o .class < 5) (taken : p .class < 6) (some : p .class ≡ 4 → ⊥) (m : o .number < 64) (n : p .number < 64) where
+  apart : slot o ≡ slot p → (o .class ≡ p .class) × (o .number ≡ p .number)
+  unfolding slot
+  apart e =
+      elim (decLt (o .class) 4) [
+        | yes h ↦
+            elim (decLt (p .class) 4) [
+              | yes k ↦ let q = rw (lt-ltb (o .class) 4 h, lt-ltb (p .class) 4 k) at e in (omega arith, omega arith)
+              | no k ↦ let q = rw (lt-ltb (o .class) 4 h, le-ltb (p .class) 4 (omega arith)) at e in (omega arith, omega arith)
+            ]
+        | no h ↦
+            elim (decLt (p .class) 4) [
+              | yes k ↦ let q = rw (le-ltb (o .class) 4 (omega arith), lt-ltb (p .class) 4 k) at e in (omega arith, omega arith)
+              | no k ↦ let q = rw (le-ltb (o .class) 4 (omega arith), le-ltb (p .class) 4 (omega arith)) at e in (omega arith, omega arith)
             ]
       ]
 
-  pub by-takes :
-      (kind x a ≡ 3 → takes x a ≡ target x a → R) → (kind x a ≡ 5 → takes x a ≡ 64 + target x a → R) → (kind x a ≡ 8 → takes x a ≡ 128 + thread x a → R) →
-      (kind x a ≡ 10 → takes x a ≡ 192 + target x a → R) →
-      ((kind x a ≡ 3 → ⊥) → (kind x a ≡ 5 → ⊥) → (kind x a ≡ 8 → ⊥) → (kind x a ≡ 10 → ⊥) → takes x a ≡ 257 → R) → R
-  by-takes f g h i j =
-      elim (ℕ-discrete (kind x a) 3) [
-        | yes e ↦ f e (takes-3 x a e)
-        | no p ↦
-            elim (ℕ-discrete (kind x a) 5) [
-              | yes e ↦ g e (takes-5 x a e)
-              | no q ↦
-                  elim (ℕ-discrete (kind x a) 8) [
-                    | yes e ↦ h e (takes-8 x a e)
-                    | no r ↦
-                        elim (ℕ-discrete (kind x a) 10) [
-                          | yes e ↦ i e (takes-10 x a e)
-                          | no s ↦ j p q r s (takes-none x a p q r s)
-                        ]
-                  ]
-            ]
-      ]
+  same-slot : eqb (slot o) (slot p) ≡ eqb (o .class) (p .class) && eqb (o .number) (p .number)
+  unfolding slot
+  same-slot =
+      same-truth _ _ (λ h. let (q, r) = apart (eqb-true _ _ h) in rw (eq-eqb _ _ q, eq-eqb _ _ r))
+      (λ h.
+      let (q, r) = both _ _ h in
+      eq-eqb (slot o) (slot p) (rw (eqb-true (o .class) (p .class) q, eqb-true (o .number) (p .number) r)))
 
--- an action with small numbers has rows
-module _ (x : List ℕ) (a : ℕ) (thread-small : thread x a < 64) (target-small : kind x a < 11 → target x a < 64) where
-  pub gives-row : gives x a < 257
-  gives-row =
-      by-gives x a (λ e q. let h = target-small (omega arith) in omega arith) (λ e q. let h = target-small (omega arith) in omega arith)
-      (λ e q. let h = target-small (omega arith) in omega arith) (λ e q. omega arith) (λ p q r s e. omega arith)
+module _ (x : List ℕ) (a : ℕ) (small : given x a .number < 64) where
+  pub given-below : given-row x a < 258
+  given-below = slot-below (given x a) (let h = given-class x a in omega arith) small
 
-  pub takes-row : takes x a < 258
-  takes-row =
-      by-takes x a (λ e q. let h = target-small (omega arith) in omega arith) (λ e q. let h = target-small (omega arith) in omega arith)
-      (λ e q. omega arith) (λ e q. let h = target-small (omega arith) in omega arith) (λ p q r s e. omega arith)
+  pub same-row : (b : ℕ) → taken x b .number < 64 → eqb (given-row x a) (taken-row x b) ≡ eqb (given x a .class) (taken x b .class) && eqb (given x a .number) (taken x b .number)
+  same-row b n = same-slot (given x a) (taken x b) (given-class x a) (taken-class x b) (taken-some x b) small n
 
-  -- the objects of the kinds that do not synchronize by their places are the last
-  pub gives-last : 7 ≤ kind x a → 128 ≤ gives x a
-  gives-last h =
-      by-gives x a (λ e q. omega arith) (λ e q. omega arith) (λ e q. omega arith) (λ e q. omega arith) (λ p q r s e. omega arith)
-
-  pub takes-first : kind x a < 7 → (o : ℕ) → 128 ≤ o → o < 257 → eqb o (takes x a) ≡ false
-  takes-first h o l g =
-      by-takes x a (λ e q. let t = target-small (omega arith) in ne-eqb o (takes x a) (λ z. omega arith))
-      (λ e q. let t = target-small (omega arith) in ne-eqb o (takes x a) (λ z. omega arith)) (λ e q. ne-eqb o (takes x a) (λ z. omega arith))
-      (λ e q. ne-eqb o (takes x a) (λ z. omega arith)) (λ p q r s e. ne-eqb o (takes x a) (λ z. omega arith))
-
-  same : (k u v : ℕ) → eqb (k + u) (k + v) ≡ eqb u v
-  same k u v =
-      elim (ℕ-discrete u v) [
-        | yes e ↦ rw e (eq-eqb (k + v) (k + v) refl ∙ sym (eq-eqb v v refl))
-        | no n ↦ ne-eqb (k + u) (k + v) (λ h. n (omega arith)) ∙ sym (ne-eqb u v n)
-      ]
-
-  -- and takes object u of a class where it is of the class's kind, and has the number u
-  module _ (u : ℕ) (small : u < 64) where
-    pub takes-variable : eqb u (takes x a) ≡ eqb (kind x a) 3 && eqb u (target x a)
-    takes-variable =
-        by-takes x a (λ e q. rw (q, e)) (λ e q. rw (q, e) (ne-eqb u (64 + target x a) (λ h. omega arith)))
-        (λ e q. rw (q, e) (ne-eqb u (128 + thread x a) (λ h. omega arith))) (λ e q. rw (q, e) (ne-eqb u (192 + target x a) (λ h. omega arith)))
-        (λ p q r s e. rw (e, ne-eqb (kind x a) 3 p) (ne-eqb u 257 (λ h. omega arith)))
-
-    pub takes-monitor : eqb (64 + u) (takes x a) ≡ eqb (kind x a) 5 && eqb u (target x a)
-    takes-monitor =
-        by-takes x a (λ e q. let t = target-small (omega arith) in rw (q, e) (ne-eqb (64 + u) (target x a) (λ h. omega arith)))
-        (λ e q. rw (q, e) (same 64 u (target x a)))
-        (λ e q. rw (q, e) (ne-eqb (64 + u) (128 + thread x a) (λ h. omega arith))) (λ e q. rw (q, e) (ne-eqb (64 + u) (192 + target x a) (λ h. omega arith)))
-        (λ p q r s e. rw (e, ne-eqb (kind x a) 5 q) (ne-eqb (64 + u) 257 (λ h. omega arith)))
-
-    pub takes-beginning : eqb (128 + u) (takes x a) ≡ eqb (kind x a) 8 && eqb u (thread x a)
-    takes-beginning =
-        by-takes x a (λ e q. let t = target-small (omega arith) in rw (q, e) (ne-eqb (128 + u) (target x a) (λ h. omega arith)))
-        (λ e q. let t = target-small (omega arith) in rw (q, e) (ne-eqb (128 + u) (64 + target x a) (λ h. omega arith)))
-        (λ e q. rw (q, e) (same 128 u (thread x a))) (λ e q. rw (q, e) (ne-eqb (128 + u) (192 + target x a) (λ h. omega arith)))
-        (λ p q r s e. rw (e, ne-eqb (kind x a) 8 r) (ne-eqb (128 + u) 257 (λ h. omega arith)))
-
-    pub takes-end : eqb (192 + u) (takes x a) ≡ eqb (kind x a) 10 && eqb u (target x a)
-    takes-end =
-        by-takes x a (λ e q. let t = target-small (omega arith) in rw (q, e) (ne-eqb (192 + u) (target x a) (λ h. omega arith)))
-        (λ e q. let t = target-small (omega arith) in rw (q, e) (ne-eqb (192 + u) (64 + target x a) (λ h. omega arith)))
-        (λ e q. rw (q, e) (ne-eqb (192 + u) (128 + thread x a) (λ h. omega arith))) (λ e q. rw (q, e) (same 192 u (target x a)))
-        (λ p q r s e. rw (e, ne-eqb (kind x a) 10 s) (ne-eqb (192 + u) 257 (λ h. omega arith)))
-
-  pub takes-nothing : eqb 256 (takes x a) ≡ false
-  takes-nothing =
-      by-takes x a (λ e q. let t = target-small (omega arith) in ne-eqb 256 (takes x a) (λ h. omega arith))
-      (λ e q. let t = target-small (omega arith) in ne-eqb 256 (takes x a) (λ h. omega arith))
-      (λ e q. ne-eqb 256 (takes x a) (λ h. omega arith)) (λ e q. let t = target-small (omega arith) in ne-eqb 256 (takes x a) (λ h. omega arith))
-      (λ p q r s e. ne-eqb 256 (takes x a) (λ h. omega arith))
+pub taken-below : (x : List ℕ) (a : ℕ) → taken x a .number < 64 → taken-row x a < 258
+taken-below x a small = slot-below (taken x a) (taken-class x a) small

@@ -12,31 +12,20 @@ use Rattle.model.specs.Limits.{maxActions, rowWords, partWords}
 use Rattle.model.specs.Search.{any}
 use Rattle.model.specs.Layout.{size, thread}
 use Rattle.model.specs.Relations.{hb}
-use Rattle.model.specs.WorkArea.{rows, part}
-use Rattle.model.proofs.Words.{rows-same}
+use Rattle.model.specs.WorkArea.{part}
+use Rattle.model.proofs.Search.{any-never, any-from}
 use Rattle.model.proofs.Closure.{hb-from-outside}
-use Rattle.rows.specs.Steps.{marked, joined}
-use Rattle.rows.proofs.Cleared.{cleared-rows}
-use Rattle.rows.proofs.Marked.{marked-rows}
-use Rattle.rows.proofs.Steps.{joined-rows}
-use Rattle.lined.specs.Objects.{gives, takes}
-use Rattle.lined.specs.Line.{unfit, late}
-use Rattle.lined.specs.Passing.{held, noted, passed}
-use Rattle.lined.proofs.Searches.{any-never, any-from}
+use Rattle.rows.specs.Part.{marked, joined, table}
+use Rattle.rows.proofs.Part.{table-same, table-cleared, table-marked, table-joined}
+use Rattle.lined.specs.Line.{given-row, taken-row, unfit, late}
+use Rattle.lined.specs.Passing.{noted, passed}
 use Rattle.lined.proofs.Edges.{hb-line}
-
--- m rows that hold the relation q
-abbrev pub table : ℕ → (ℕ → ℕ → Bool) → List ℕ
-table m q = rows rowWords (rowWords * m) q
-
-pub table-same : (m : ℕ) (p q : ℕ → ℕ → Bool) → ((c d : ℕ) → p c d ≡ q c d) → table m p ≡ table m q
-table-same m p q f = rows-same rowWords (rowWords * m) p q (omega arith) (λ a b k l. f a b)
 
 module _ (x : List ℕ) where
   -- nothing is passed
-  pub passed-none : {k : ℕ} → k ≡ partWords → replicate k 0 ≡ held (passed x (size x))
+  pub passed-none : {k : ℕ} → k ≡ partWords → replicate k 0 ≡ table maxActions (passed x (size x))
   passed-none e =
-      rw e (cleared-rows rowWords partWords (omega arith) ∙ table-same maxActions (λ c d. false) (passed x (size x)) (λ c d. sym (beyond c d)))
+      rw e (table-cleared maxActions ∙ table-same maxActions (λ c d. false) (passed x (size x)) (λ c d. sym (beyond c d)))
     where
       beyond : (c d : ℕ) → (leb (size x) c && hb x c d) ≡ false
       beyond c d =
@@ -48,11 +37,11 @@ module _ (x : List ℕ) where
   pub noted-none : (f : ℕ → ℕ) (m : ℕ) → replicate (rowWords * m) 0 ≡ table m (noted x f (size x))
   unfolding noted
   noted-none f m =
-      cleared-rows rowWords (rowWords * m) (omega arith)
+      table-cleared m
       ∙ table-same m (λ c d. false) (noted x f (size x)) (λ o d. sym (any-never _ (size x) (λ c l. rw (lt-leb (size x) c l))))
 
   -- all is passed
-  pub passed-all : held (passed x 0) ≡ part x
+  pub passed-all : table maxActions (passed x 0) ≡ part x
   unfolding part
   passed-all = table-same maxActions (passed x 0) (hb x) (λ c d. rw (le-leb 0 c (omega arith)))
 
@@ -68,18 +57,18 @@ module _ (x : List ℕ) where
     module _ (fit : any (size x) (unfit x) ≡ false) (timely : any (size x) (late x) ≡ false) where
       -- what happens after a, in a row of its own
       abbrev after : ℕ → ℕ → Bool
-      after c d = (false || eqb c 0 && noted x (thread x) s (thread x a) d) || eqb c 0 && noted x (takes x) s (gives x a) d
+      after c d = (false || eqb c 0 && noted x (thread x) s (thread x a) d) || eqb c 0 && noted x (taken-row x) s (given-row x a) d
 
       pub after-row :
-          {t g : ℕ} → t ≡ thread x a → t < 64 → g ≡ gives x a → g < 258 → {later through us vs : List ℕ} →
-          later ≡ table 64 (noted x (thread x) s) → through ≡ table 258 (noted x (takes x) s) → us ≡ joined rowWords (replicate rowWords 0) 0 later t →
-          vs ≡ joined rowWords us 0 through g → vs ≡ table 1 after
+          {t g : ℕ} → t ≡ thread x a → t < 64 → g ≡ given-row x a → g < 258 → {later through us vs : List ℕ} →
+          later ≡ table 64 (noted x (thread x) s) → through ≡ table 258 (noted x (taken-row x) s) → us ≡ joined (replicate rowWords 0) 0 later t →
+          vs ≡ joined us 0 through g → vs ≡ table 1 after
       after-row {t} {g} q small r less i j u v =
           rw (v, u, i, j)
-          (ap (λ (ws : List ℕ). joined rowWords (joined rowWords ws 0 (table 64 (noted x (thread x) s)) t) 0 (table 258 (noted x (takes x) s)) g) (cleared-rows rowWords rowWords (omega arith))
-          ∙ ap (λ (ws : List ℕ). joined rowWords ws 0 (table 258 (noted x (takes x) s)) g)
-          (joined-rows rowWords rowWords (λ c d. false) 0 (rowWords * 64) (noted x (thread x) s) t (omega arith) (omega arith) (omega arith))
-          ∙ joined-rows rowWords rowWords _ 0 (rowWords * 258) (noted x (takes x) s) g (omega arith) (omega arith) (omega arith)
+          (ap (λ (ws : List ℕ). joined (joined ws 0 (table 64 (noted x (thread x) s)) t) 0 (table 258 (noted x (taken-row x) s)) g) (table-cleared 1)
+          ∙ ap (λ (ws : List ℕ). joined ws 0 (table 258 (noted x (taken-row x) s)) g)
+          (table-joined 1 (λ c d. false) 0 64 (noted x (thread x) s) t (omega arith) small)
+          ∙ table-joined 1 _ 0 258 (noted x (taken-row x) s) g (omega arith) less
           ∙ rw (q, r))
 
       row : (c d : ℕ) → (passed x s c d || eqb c a && after 0 d) ≡ passed x a c d
@@ -90,22 +79,18 @@ module _ (x : List ℕ) where
           ]
 
       pub passed-more :
-          {part us vs : List ℕ} → part ≡ held (passed x s) → us ≡ table 1 after → a < maxActions → vs ≡ joined rowWords part a us 0 → vs ≡ held (passed x a)
+          {part us vs : List ℕ} → part ≡ table maxActions (passed x s) → us ≡ table 1 after → a < maxActions → vs ≡ joined part a us 0 → vs ≡ table maxActions (passed x a)
       passed-more h i few v =
           rw (v, h, i)
-          (joined-rows rowWords partWords (passed x s) a (rowWords * 1) after 0 (omega arith) (omega arith) (omega arith)
+          (table-joined maxActions (passed x s) a 1 after 0 few (omega arith)
           ∙ table-same maxActions _ (passed x a) row)
 
       -- and a with it
       abbrev from : ℕ → ℕ → Bool
-      from c d = after c d || eqb c 0 && (false || true && eqb d a)
+      from c d = after c d || eqb c 0 && eqb d a
 
-      pub from-row :
-          {us vs ws : List ℕ} → us ≡ table 1 after → vs ≡ marked rowWords (replicate rowWords 0) 0 a → ws ≡ joined rowWords us 0 vs 0 → ws ≡ table 1 from
-      from-row {us} {vs} i h j =
-          let single : vs ≡ table 1 (λ c d. false || eqb c 0 && eqb d a) =
-          h ∙ ap (λ (ws : List ℕ). marked rowWords ws 0 a) (cleared-rows rowWords rowWords (omega arith)) ∙ marked-rows rowWords rowWords (λ c d. false) 0 a (omega arith) in
-          rw (j, i, single) (joined-rows rowWords rowWords after 0 rowWords (λ c d. false || eqb c 0 && eqb d a) 0 (omega arith) (omega arith) (omega arith))
+      pub from-row : {us ws : List ℕ} → us ≡ table 1 after → ws ≡ marked us 0 a → ws ≡ table 1 from
+      from-row i j = rw (j, i) (table-marked 1 after 0 a)
 
       -- a is noted in the row of its number by f, of m rows
       module _ (f : ℕ → ℕ) (m : ℕ) {o : ℕ} (own : o ≡ f a) (inner : o < m) where
@@ -117,8 +102,8 @@ module _ (x : List ℕ) where
         more u d = rw (wider u d, or-comm (eqb d a) (hb x a d), hb-line x fit timely s a e inside d, own)
 
         pub noted-more :
-            {ws us vs : List ℕ} → ws ≡ table m (noted x f s) → us ≡ table 1 from → vs ≡ joined rowWords ws o us 0 → vs ≡ table m (noted x f a)
+            {ws us vs : List ℕ} → ws ≡ table m (noted x f s) → us ≡ table 1 from → vs ≡ joined ws o us 0 → vs ≡ table m (noted x f a)
         noted-more h p j =
             rw (j, h, p)
-            (joined-rows rowWords (rowWords * m) (noted x f s) o (rowWords * 1) from 0 (omega arith) (omega arith) (omega arith)
+            (table-joined m (noted x f s) o 1 from 0 inner (omega arith)
             ∙ table-same m _ (noted x f a) more)

@@ -1,38 +1,50 @@
 -- Sections in line.
-use Prim.Native.Nat.{ℕ}
+use Prim.Native.Nat.{ℕ, _+_, _*_}
 use mathlib.Core.List.{List}
 use mathlib.Core.Bool.{Bool, not, cond, _&&_, _||_}
 use lib.ListN.{length}
 use lib.Dec.{eqb, ltb, leb}
 use Rattle.model.specs.Limits.{maxActions, partWords}
+use Rattle.model.specs.Kinds.{nothing-given}
 use Rattle.model.specs.Search.{any}
-use Rattle.model.specs.Layout.{size, thread, kind, target, place}
+use Rattle.model.specs.Layout.{size, thread, place, row}
 use Rattle.model.specs.WorkArea.{part}
-use Rattle.lined.specs.Objects.{gives, takes}
+use Rattle.relations.specs.declared.Object.{Object}
+use Rattle.relations.specs.Objects.{given, taken}
 
--- a's thread, or the object of a, is none of 64
+-- the row of an object: those of a class, with the numbers below 64, after one another; nothing given is 256, nothing taken 257
+unfoldable pub slot : Object → ℕ
+slot o = cond (ltb (o .class) nothing-given) (64 * o .class + o .number) (252 + o .class)
+
+abbrev pub given-row : List ℕ → ℕ → ℕ
+given-row x a = slot (given x a)
+
+abbrev pub taken-row : List ℕ → ℕ → ℕ
+taken-row x a = slot (taken x a)
+
+-- a's thread, or the number of an object of a, is none of 64
 unfoldable pub broad : List ℕ → ℕ → Bool
-broad x a = leb 64 (thread x a) || ltb (kind x a) 11 && leb 64 (target x a)
+broad x a = leb 64 (thread x a) || (leb 64 (given x a .number) || leb 64 (taken x a .number))
 
--- an action of kind k synchronizes by its place
-abbrev pub placed : ℕ → Bool
-placed k = leb 3 k && ltb k 7
+-- a synchronizes by its place
+abbrev pub placed : List ℕ → ℕ → Bool
+placed x a = row x a .gives .placed || row x a .takes .placed
 
 -- an action before a, that synchronizes by its place, has place p or a larger one
 unfoldable pub reached : List ℕ → ℕ → ℕ → Bool
-reached x a p = any a (λ b. placed (kind x b) && leb p (place x b))
+reached x a p = any a (λ b. placed x b && leb p (place x b))
 
 -- a has no rows, or its place does not rise
 unfoldable pub unfit : List ℕ → ℕ → Bool
-unfit x a = broad x a || placed (kind x a) && reached x a (place x a)
+unfit x a = broad x a || placed x a && reached x a (place x a)
 
--- an action before a takes object o
-unfoldable pub seen : List ℕ → ℕ → ℕ → Bool
-seen x a o = any a (λ b. eqb o (takes x b))
+-- an action before a takes the object of row o
+unfoldable pub taken-before : List ℕ → ℕ → ℕ → Bool
+taken-before x a o = any a (λ b. eqb o (taken-row x b))
 
--- a start or an end synchronizes with an earlier action: places are not asked for
+-- a synchronizes with an earlier action: it gives, and not by its place, what that takes
 unfoldable pub late : List ℕ → ℕ → Bool
-late x a = leb 7 (kind x a) && seen x a (gives x a)
+late x a = not (row x a .gives .placed) && taken-before x a (given-row x a)
 
 -- the words ws are a part, and section x is in line
 unfoldable pub lined : List ℕ → List ℕ → Bool
@@ -40,5 +52,5 @@ lined x ws =
     eqb (length ws) partWords && leb (size x) maxActions && not (any (size x) (unfit x)) && not (any (size x) (late x))
 
 -- the words of x's part in place of ws, where it is in line
-unfoldable pub filled : List ℕ → List ℕ → List ℕ
-filled x ws = cond (lined x ws) (part x) ws
+unfoldable pub lined-part : List ℕ → List ℕ → List ℕ
+lined-part x ws = cond (lined x ws) (part x) ws

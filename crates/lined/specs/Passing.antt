@@ -3,17 +3,11 @@ use Prim.Native.Nat.{ℕ}
 use mathlib.Core.List.{List}
 use mathlib.Core.Bool.{Bool, _&&_, _||_}
 use lib.Dec.{eqb, leb}
-use Rattle.model.specs.Limits.{rowWords, partWords}
 use Rattle.model.specs.Search.{any}
 use Rattle.model.specs.Layout.{size}
 use Rattle.model.specs.Relations.{hb}
-use Rattle.model.specs.WorkArea.{rows}
 
--- the words of a part that holds the relation p
-abbrev pub held : (ℕ → ℕ → Bool) → List ℕ
-held p = rows rowWords partWords p
-
--- b is a passed action, or after one, whose number by f is o
+-- b is a passed action, or after one, whose row by f is o
 unfoldable pub noted : List ℕ → (ℕ → ℕ) → ℕ → ℕ → ℕ → Bool
 noted x f s o b = any (size x) (λ c. leb s c && (eqb o (f c) && (eqb b c || hb x c b)))
 

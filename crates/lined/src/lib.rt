@@ -1,112 +1,67 @@
 // Happens-before of a section in line: every edge goes to a later position, and so one sweep from the last action to the first closes it.
-ghost use mathlib.Core.Path.{_≡_};
-ghost use mathlib.Core.Bool.{false, not, cond};
-ghost use Prim.Native.Nat.{_<_, _≤_};
-ghost use lib.ListN.{length, replicate};
-ghost use Rattle.model.specs.Limits.{maxActions, rowWords, partWords};
-ghost use Rattle.model.specs.Layout.{size};
-ghost use Rattle.model.specs.Search.{any};
-ghost use Rattle.rows.specs.Steps.{marked};
-ghost use Rattle.lined.specs.Objects.{given, taken, object, gives, takes};
-ghost use Rattle.lined.specs.Passing.{held, passed};
-ghost use Rattle.lined.specs.Line.{broad, placed, unfit, late, lined, filled};
 use fields::kind;
 use fields::place;
 use fields::size;
-use fields::target;
 use fields::thread;
+use model::MAX_ACTIONS;
+use model::PART_WORDS;
+use model::ROW_WORDS;
+use relations::Object;
+use relations::given;
+use relations::taken;
+use table::row_of;
+ghost use mathlib.Core.Path.{_≡_};
+ghost use mathlib.Core.Bool.{false, not, cond, _&&_};
+ghost use Prim.Native.Nat.{_<_, _≤_};
+ghost use lib.Dec.{eqb};
+ghost use lib.ListN.{length, getD};
+ghost use Rattle.model.specs.Limits.{maxActions, partWords};
+ghost use Rattle.model.specs.Layout.{size, row};
+ghost use Rattle.model.specs.Search.{any};
+ghost use Rattle.rows.specs.Part.{table};
+ghost use Rattle.lined.specs.Line.{slot, given-row, broad, placed, unfit, late, lined, lined-part};
+ghost use Rattle.lined.specs.Passing.{passed};
 
-// The words of a part, and the most actions of a section.
-const PART: usize = 256;
+// Rows of the sweep: threads and the numbers of objects are below NUMBERS, and the four classes of objects come before the two of nothing.
+const NUMBERS: u8 = 64;
 
-const ACTIONS: usize = 128;
+const OBJECTS: usize = 258;
 
-// The kinds of the table, with 0.
-const KINDS: usize = 12;
+// The words of a row for each thread, and of one for each object.
+const THREAD_ROWS: usize = 64 * ROW_WORDS;
 
-// The words of a row.
-const W: usize = 2;
+const OBJECT_ROWS: usize = OBJECTS * ROW_WORDS;
 
-// A row for each of 64 threads, and for each of the objects.
-const THREADS: usize = 128;
-
-const OBJECTS: usize = 516;
-
-// The class of objects that an action of a kind gives one of, and takes one of, as the first of their numbers; 256 and 257, where there is none. Kinds follow one another as they please: what hangs on them is looked up and chosen, and no way is taken by them.
-const GIVEN: [u16; KINDS] = [256, 256, 256, 256, 0, 256, 64, 128, 256, 192, 256, 256];
-
-const TAKEN: [u16; KINDS] = [257, 257, 257, 0, 257, 64, 257, 257, 128, 257, 192, 257];
-
-fn given(k: u8) -> u16
-    ensures { λ r. ⌜ r ≡ given k ⌝ }
+// The row of an object.
+fn slot(o: Object) -> u16
+    ensures { λ r. ⌜ r ≡ slot o ⌝ }
 {
-    let i = k as usize;
-    if i < KINDS { GIVEN[i] } else { 256 }
+    if o.class < model::NOTHING_GIVEN {
+        64 * (o.class as u16) + o.number as u16
+    } else {
+        252 + o.class as u16
+    }
 }
 
-fn taken(k: u8) -> u16
-    ensures { λ r. ⌜ r ≡ taken k ⌝ }
-{
-    let i = k as usize;
-    if i < KINDS { TAKEN[i] } else { 257 }
-}
-
-// The number of an object in its class: the thread, for the own thread's, else the target.
-fn chosen(own: bool, t: u8, u: u8) -> u8
-    ensures { λ r. ⌜ r ≡ cond own t u ⌝ }
-{
-    if own { t } else { u }
-}
-
-// Object v of a class.
-fn object(from: u16, v: u8) -> u16
-    requires { ⌜ from ≤ 257 ⌝ }
-    ensures { λ r. ⌜ r ≡ object from v ⌝ }
-{
-    if from < 256 { from + v as u16 } else { from }
-}
-
-// The object by which a synchronizes with later actions: a variable, a monitor, the beginning of a thread or its end.
-fn gives(x: &[u8], a: u16) -> u16
-    ensures { λ r. ⌜ r ≡ gives (now (x .entry)) a ⌝ }
-{
-    let k = kind(x, a);
-    let t = thread(x, a);
-    let u = target(x, a);
-    object(given(k), chosen(k == 9, t, u))
-}
-
-// The object by which earlier actions synchronize with a.
-fn takes(x: &[u8], a: u16) -> u16
-    ensures { λ r. ⌜ r ≡ takes (now (x .entry)) a ⌝ }
-{
-    let k = kind(x, a);
-    let t = thread(x, a);
-    let u = target(x, a);
-    object(taken(k), chosen(k == 8, t, u))
-}
-
-// Whether a has no row among the threads, or its object none among the objects.
+// Whether a has no row among the threads, or an object of a none among the objects.
 fn broad(x: &[u8], a: u16) -> bool
     ensures { λ r. ⌜ r ≡ broad (now (x .entry)) a ⌝ }
 {
-    if thread(x, a) >= 64 {
+    if thread(x, a) >= NUMBERS {
         return true;
     }
-    if kind(x, a) >= 11 {
-        return false;
+    if given(x, a).number >= NUMBERS {
+        return true;
     }
-    target(x, a) >= 64
+    taken(x, a).number >= NUMBERS
 }
 
-// Whether an action of kind k synchronizes by its place.
-fn placed(k: u8) -> bool
-    ensures { λ r. ⌜ r ≡ placed k ⌝ }
+// Whether a synchronizes by its place.
+fn placed(x: &[u8], a: u16) -> bool
+    ensures { λ r. ⌜ r ≡ placed (now (x .entry)) a ⌝ }
 {
-    if k < 3 {
-        return false;
-    }
-    k < 7
+    let k = row_of(kind(x, a));
+    if k.gives.placed { true } else { k.takes.placed }
 }
 
 // Place p, for an action that synchronizes by it, else what is due.
@@ -125,7 +80,7 @@ fn rising(x: &[u8], n: u16) -> bool
         if broad(x, a) {
             return false;
         }
-        let by = placed(kind(x, a));
+        let by = placed(x, a);
         let p = place(x, a) as u32;
         if chosen_place(by, p, due) < due {
             return false;
@@ -135,37 +90,32 @@ fn rising(x: &[u8], n: u16) -> bool
     true
 }
 
+// Whether a gives, and not by its place, an object that is marked.
+fn met(x: &[u8], a: u16, seen: &[u8; OBJECTS]) -> bool
+    requires { ⌜ given-row (now x) a < 258 ⌝ }
+    ensures { λ r. ⌜ r ≡ not (row (now (x .entry)) a .gives .placed) && eqb (getD (now (seen .entry)) (given-row (now (x .entry)) a) 0) 1 ⌝ }
+{
+    if row_of(kind(x, a)).gives.placed {
+        return false;
+    }
+    let o = slot(given(x, a)) as usize;
+    seen[o] == 1
+}
+
 // Whether no start stands after the beginning of its thread, and no end after a join of it.
 fn timely(x: &[u8], n: u16) -> bool
     requires { ⌜ any n (unfit (now x)) ≡ false ⌝ }
     ensures { λ r. ⌜ r ≡ not (any n (late (now (x .entry)))) ⌝ }
 {
-    let mut seen = [0u8; 258];
+    let mut seen = [0u8; OBJECTS];
     for a in 0..n {
-        if kind(x, a) >= 7 {
-            let o = gives(x, a) as usize;
-            if seen[o] == 1 {
-                return false;
-            }
-            let i = takes(x, a) as usize;
-            seen[i] = 1;
+        if met(x, a, &seen) {
+            return false;
         }
+        let i = slot(taken(x, a)) as usize;
+        seen[i] = 1;
     }
     true
-}
-
-// A row with the bit for a alone.
-fn single(a: u16) -> [u64; W]
-    requires { ⌜ a < maxActions ⌝ }
-    ensures { λ r. ⌜ r ≡ marked rowWords (replicate rowWords 0) 0 a ⌝ }
-{
-    let mut r = [0u64; W];
-    if a < 64 {
-        r[0] = 1 << a;
-    } else {
-        r[1] = 1 << (a - 64);
-    }
-    r
 }
 
 // Row a gets what is noted of the actions of its thread, and of those that take its object: all of them are later, and passed. Then a is noted, with its row.
@@ -175,35 +125,35 @@ fn sweep(x: &[u8], part: &mut [u64], n: u16)
     requires { ⌜ n ≤ maxActions ⌝ }
     requires { ⌜ any n (unfit (now x)) ≡ false ⌝ }
     requires { ⌜ any n (late (now x)) ≡ false ⌝ }
-    ensures { λ _. ⌜ now (part .exit) ≡ held (passed (now (x .entry)) 0) ⌝ }
+    ensures { λ _. ⌜ now (part .exit) ≡ table maxActions (passed (now (x .entry)) 0) ⌝ }
 {
     rows::clear(part);
-    let mut later = [0u64; THREADS];
-    let mut through = [0u64; OBJECTS];
+    let mut later = [0u64; THREAD_ROWS];
+    let mut through = [0u64; OBJECT_ROWS];
     let mut a = n;
     while a > 0 {
         a -= 1;
         let t = thread(x, a) as u16;
-        let mut own = [0u64; W];
+        let mut own = [0u64; ROW_WORDS];
         rows::join(&mut own, 0, &later, t);
-        rows::join(&mut own, 0, &through, gives(x, a));
+        rows::join(&mut own, 0, &through, slot(given(x, a)));
         rows::join(part, a, &own, 0);
-        rows::join(&mut own, 0, &single(a), 0);
+        rows::set(&mut own, 0, a);
         rows::join(&mut later, t, &own, 0);
-        rows::join(&mut through, takes(x, a), &own, 0);
+        rows::join(&mut through, slot(taken(x, a)), &own, 0);
     }
 }
 
 // Fills the part of a section in line, whatever stood there. The result is whether it is one; where it is none, the words stay.
 pub fn lined(x: &[u8], part: &mut [u64]) -> bool
     ensures { λ r. ⌜ r ≡ lined (now (x .entry)) (now (part .entry)) ⌝ }
-    ensures { λ _. ⌜ now (part .exit) ≡ filled (now (x .entry)) (now (part .entry)) ⌝ }
+    ensures { λ _. ⌜ now (part .exit) ≡ lined-part (now (x .entry)) (now (part .entry)) ⌝ }
 {
-    if part.len() != PART {
+    if part.len() != PART_WORDS {
         return false;
     }
     let n = size(x);
-    if ACTIONS < n as usize {
+    if MAX_ACTIONS < n as usize {
         return false;
     }
     if !rising(x, n) {

@@ -172,6 +172,9 @@ pub fn row_of(k: u8) -> Kind
     ensures { λ r. ⌜ r ≡ kindRow k ⌝ }
 {
     let kinds = KINDS;
+    if k > model::EXTERNAL {
+        return kinds[0];
+    }
     match k {
         model::READ => kinds[1],
         model::WRITE => kinds[2],

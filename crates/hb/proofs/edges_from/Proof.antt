@@ -17,7 +17,7 @@ abbrev μ-loop : tie.MeasureT-loop
 μ-loop x part₀ at m a w j₀ part j = m - j
 
 returns : tie.Need-returns Inv-loop μ-loop
-returns c = from-nothing _ _ _ _ (c .before .before .wanted-by .ensures) (c .enum-told .given .1) _
+returns c = from-nothing _ _ _ _ (c .before .before .offered .ensures) (c .if1 .taken) _
 
 loop-holds : tie.Need-loop-holds Inv-loop μ-loop
 loop-holds c = (omega arith, sym (from-none _ _ _ _))
@@ -26,16 +26,16 @@ loop-again : tie.Need-loop-again Inv-loop μ-loop
 loop-again c =
     let at = c .before .before .before .before in
     let so-far = at .loop .inv .1 in
-    let asks = at .before .before .wanted-by .ensures in
-    let found = c .before .meets .ensures in
-    (omega arith, ⊎-elim (λ w. w .5 ∙ w .2 .ensures ∙ from-edge _ _ _ _ _ so-far asks found (w .0 .taken)) (λ w. w .1 ∙ from-kept _ _ _ _ _ so-far asks found (w .0 .left)) (c .if1 .came))
+    let offers = at .before .before .before .offered .ensures in
+    let found = c .before .accepts .ensures in
+    (omega arith, ⊎-elim (λ w. w .5 ∙ w .2 .ensures ∙ from-edge _ _ _ _ _ so-far offers found (w .0 .taken)) (λ w. w .1 ∙ from-kept _ _ _ _ _ so-far offers found (w .0 .left)) (c .if2 .came))
 
 same-length : tie.Need-same-length Inv-loop μ-loop
 same-length c = ap length (c .before .loop .inv .1) ∙ length-from _ _ _ _ _
 
 returns-2 : tie.Need-returns-2 Inv-loop μ-loop
 returns-2 c =
-    let e : c .before .loop .j ≡ c .before .before .before .before .before .before .args .m = omega arith in rw e at (c .before .loop .inv .1)
+    let e : c .before .loop .j ≡ c .before .before .before .before .before .before .before .args .m = omega arith in rw e at (c .before .loop .inv .1)
 
 pub edges-from-spec : {M : Type 1} → statement M
 edges-from-spec =
@@ -44,7 +44,6 @@ edges-from-spec =
     Inv-loop
     μ-loop
     (λ c κs. search needs)
-    (λ c. search needs)
     returns
     loop-holds
     (λ c. search needs)

@@ -3,7 +3,8 @@ use mathlib.Core.Path.{sym, ap, _∙_}
 use native.Mathlib.Omega.{arith}
 use lib.ListN.{length}
 use borrow.Author.Needs.{needs}
-use Rattle.hb.proofs.Filled.{happens-by, happens-other, happens-many, happens-lined, other-kept}
+use Rattle.positions.proofs.Listing.{listed-fits}
+use Rattle.hb.proofs.Filled.{happens-by, receivers, happens-other, happens-many, happens-lined, other-kept}
 use Rattle.hb.proofs.fill.Statement.{statement}
 use Rattle.hb.proofs.fill.Tie as tie
 
@@ -24,6 +25,20 @@ returns-3 c =
     other-kept _ _ (lined .lined .ensures .0) (lined .lined .ensures .1) (c .before .before .before .if1 .left)
     ∙ sym (happens-many _ _ (let e = c .before .size .ensures in omega arith))
 
+sweep-requires : tie.Need-sweep-requires
+sweep-requires c κs =
+    let list = c .before .before .before in
+    let small = list .before in
+    let sized = small .before in
+    (search needs, (search needs, receivers _ (sized .size .ensures) (small .if3 .left) (list .listed .ensures)))
+
+close-requires : tie.Need-close-requires
+close-requires c κs =
+    let list = c .before .before .before .before .before .before .before .before in
+    let small = list .before in
+    let sized = small .before in
+    listed-fits (receivers _ (sized .size .ensures) (small .if3 .left) (list .listed .ensures))
+
 returns-4 : tie.Need-returns-4
 returns-4 c =
     let close = c .before .before in
@@ -34,7 +49,7 @@ returns-4 c =
     let other = sized .before .before in
     let lined = other .before .before .before in
     let kept = other-kept _ _ (lined .lined .ensures .0) (lined .lined .ensures .1) (other .if1 .left) in
-    happens-by _ _ (sym (ap length kept) ∙ sized .before .if2 .left) (sized .size .ensures) (small .if3 .left) (list .list-receivers .ensures) (swept .sweep .ensures) (close .close .ensures)
+    happens-by _ _ (sym (ap length kept) ∙ sized .before .if2 .left) (sized .size .ensures) (small .if3 .left) (receivers _ (sized .size .ensures) (small .if3 .left) (list .listed .ensures)) (swept .sweep .ensures) (close .close .ensures)
 
 pub fill-spec : {M : Type 1} → statement M
 fill-spec =
@@ -50,7 +65,7 @@ fill-spec =
     (λ c. search needs)
     returns-3
     (λ c κs. search needs)
-    (λ c κs. search needs)
-    (λ c κs. search needs)
+    sweep-requires
+    close-requires
     (λ c. search needs)
     returns-4)

@@ -4,17 +4,18 @@ use mathlib.Core.Path.{_≡_, sym, ap, _∙_}
 use native.Mathlib.Omega.{arith}
 use lib.ListN.{length}
 use borrow.Author.Needs.{needs}
-use Rattle.model.proofs.Words.{length-rows}
+use Rattle.model.specs.Limits.{maxActions}
 use Rattle.rows.proofs.Steps.{length-joined}
-use Rattle.lined.specs.Passing.{held}
-use Rattle.lined.proofs.Passing.{table}
+use Rattle.model.proofs.Words.{length-rows}
+use Rattle.rows.specs.Part.{table}
+use Rattle.positions.proofs.Listing.{listed-upto}
 use Rattle.hb.specs.Passing.{leads, passed}
 use Rattle.hb.proofs.Passing.{sweep-none, later-none, sweep-more, later-more}
 use Rattle.hb.proofs.sweep.Statement.{statement}
 use Rattle.hb.proofs.sweep.Tie as tie
 
 abbrev Inv-loop : tie.InvT-loop
-Inv-loop x part₀ n at m later₀ a₀ part later a = (a ≤ n) × (part ≡ held (leads x n a)) × (later ≡ table 256 (passed x n a))
+Inv-loop x part₀ n at m later₀ a₀ part later a = (a ≤ n) × (part ≡ table maxActions (leads x n a)) × (later ≡ table 256 (passed x n a))
 
 abbrev μ-loop : tie.MeasureT-loop
 μ-loop x part₀ n at m later₀ a₀ part later a = a
@@ -27,7 +28,7 @@ slice-aggregate-join : tie.Need-slice-aggregate-join Inv-loop μ-loop
 slice-aggregate-join c = sym (ap length (c .before .before .before .before .loop .inv .2) ∙ length-rows _ _ _)
 
 edges-from-requires : tie.Need-edges-from-requires Inv-loop μ-loop
-edges-from-requires c κs = omega (arith, c .before .before .before .before .before .before .before .before .before .before .before .before .before .before .before .pre .1 .1 .few)
+edges-from-requires c κs = omega (arith, listed-upto (c .before .before .before .before .before .before .before .before .before .before .before .before .before .before .before .pre .1 .1))
 
 slice-aggregate-join-2 : tie.Need-slice-aggregate-join-2 Inv-loop μ-loop
 slice-aggregate-join-2 c = sym (ap length (c .before .before .before .before .before .before .before .before .before .before .before .before .loop .inv .2) ∙ length-rows _ _ _)

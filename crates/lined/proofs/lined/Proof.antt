@@ -3,21 +3,21 @@ use mathlib.Core.Path.{refl, _∙_}
 use native.Mathlib.Omega.{arith}
 use borrow.Author.Needs.{needs}
 use borrow.Author.Tests.{not-true, not-false}
-use Rattle.lined.proofs.Line.{told-none, told-some, lined-other, lined-many, lined-unfit, lined-late, lined-all, filled-none, filled-part}
+use Rattle.lined.proofs.Line.{told-none, told-some, lined-other, lined-many, lined-unfit, lined-late, lined-all, part-kept, part-filled}
 use Rattle.lined.proofs.Passing.{passed-all}
 use Rattle.lined.proofs.lined.Statement.{statement}
 use Rattle.lined.proofs.lined.Tie as tie
 
 returns : tie.Need-returns
-returns c = filled-none _ _ (lined-other _ _ (c .if1 .taken))
+returns c = part-kept _ _ (lined-other _ _ (c .if1 .taken))
 
 returns-2 : tie.Need-returns-2
-returns-2 c = filled-none _ _ (lined-many _ _ (let e = c .before .size .ensures in omega arith))
+returns-2 c = part-kept _ _ (lined-many _ _ (let e = c .before .size .ensures in omega arith))
 
 returns-3 : tie.Need-returns-3
 returns-3 c =
     let rising = c .before in
-    filled-none _ _ (lined-unfit _ _ (told-some _ _ (rising .before .before .size .ensures) (rising .rising .ensures) (not-true _ (c .if3 .taken))))
+    part-kept _ _ (lined-unfit _ _ (told-some _ _ (rising .before .before .size .ensures) (rising .rising .ensures) (not-true _ (c .if3 .taken))))
 
 timely-requires : tie.Need-timely-requires
 timely-requires c κs = told-none _ _ refl (c .before .rising .ensures) (not-false _ (c .if3 .left))
@@ -25,7 +25,7 @@ timely-requires c κs = told-none _ _ refl (c .before .rising .ensures) (not-fal
 returns-4 : tie.Need-returns-4
 returns-4 c =
     let timely = c .before in
-    filled-none _ _ (lined-late _ _ (told-some _ _ (timely .before .before .before .before .size .ensures) (timely .timely .ensures) (not-true _ (c .if4 .taken))))
+    part-kept _ _ (lined-late _ _ (told-some _ _ (timely .before .before .before .before .size .ensures) (timely .timely .ensures) (not-true _ (c .if4 .taken))))
 
 sweep-requires : tie.Need-sweep-requires
 sweep-requires c κs =
@@ -53,7 +53,7 @@ returns-5 c =
     let rising = timely .before .before in
     let small = rising .before in
     let e = small .before .size .ensures in
-    filled-part _ _
+    part-filled _ _
     (lined-all _ _ (small .before .before .if1 .left) (let h = small .if2 .left in omega arith)
     (told-none _ _ e (rising .rising .ensures) (not-false _ (timely .before .if3 .left)))
     (told-none _ _ e (timely .timely .ensures) (not-false _ (test .if4 .left))))

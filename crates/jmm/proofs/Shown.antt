@@ -3,12 +3,10 @@ use Prim.Native.Nat.{ℕ, _+_, _*_, _-_, _<_, _≤_}
 use native.Mathlib.Omega.{arith}
 use mathlib.Core.Path.{_≡_, refl, sym, ap, ap₂, _∙_}
 use mathlib.Core.List.{List}
-use mathlib.Core.Bool.{Bool, cond, true}
+use mathlib.Core.Bool.{Bool}
 use lib.ListN.{length, take, drop}
-use borrow.Author.Tests.{le-leb}
 use Rattle.model.specs.declared.Answer.{Answer}
 use Rattle.model.specs.Limits.{maxActions, partWords}
-use Rattle.model.specs.Answers.{pass}
 use Rattle.model.specs.Layout.{K, section, size}
 use Rattle.model.specs.Relations.{hb}
 use Rattle.model.specs.WorkArea.{shown, part, filled}
@@ -18,15 +16,14 @@ use Rattle.model.proofs.Words.{shown-part}
 use Rattle.record.specs.declared.Span.{Span}
 use Rattle.record.specs.Sections.{bounded}
 use Rattle.positions.specs.Limit.{limited}
-use Rattle.justify.specs.Numbered.{within-limit}
+use Rattle.positions.proofs.Limited.{within-limit}
 use Rattle.jmm.specs.Accepted.{Accepted, Filled}
 use Rattle.record.proofs.Parts.{span-section}
 use Rattle.jmm.proofs.Laid.{length-filled, part-filled}
 
 -- the rules judge every section that is within the limit
 unlimited : (x : List ℕ) (q : Answer) → size x ≤ maxActions → limited x q ≡ q
-unfolding limited
-unlimited x q l = rw (le-leb (size x) maxActions l)
+unlimited x q l = sym (within-limit x q refl l refl)
 
 -- what a question leaves in the words
 pub filled-parts : (r ws : List ℕ) (n : ℕ) {us : List ℕ} → Accepted r n (length ws) → us ≡ filled r n ws → Filled r n us
@@ -59,12 +56,9 @@ module _ (r : List ℕ) (n : ℕ) (ws : List ℕ) (f : Filled r n ws) where
       h ∙ ap₂ (λ (g : ℕ → ℕ → Bool) (y : List ℕ). limited y (G g y)) (shown-first l) (span-section r 0 _ e)
       ∙ unlimited (section r 0) _ (f .accepted .sized 0 l)
 
-  in-limit : (i : ℕ) → i < n → within-limit r i ≡ true
-  unfolding within-limit
-  in-limit i l =
-      rw (le-leb (size (section r 0)) maxActions (f .accepted .sized 0 (omega arith)), le-leb (size (section r i)) maxActions (f .accepted .sized i l))
-
   pub committing-as : (i : ℕ) {q : Answer} → i < n →
-      q ≡ cond (within-limit r i) (committing (shown (take partWords ws)) (shown (take (partWords * i + partWords - partWords * i) (drop (partWords * i) ws))) r i) pass →
+      q ≡ limited (section r 0) (limited (section r i) (committing (shown (take partWords ws)) (shown (take (partWords * i + partWords - partWords * i) (drop (partWords * i) ws))) r i)) →
       q ≡ committing (hb (section r 0)) (hb (section r i)) r i
-  committing-as i l h = h ∙ rw (in-limit i l, shown-first (omega arith), shown-at r n ws f i l)
+  committing-as i l h =
+      h ∙ unlimited (section r 0) _ (f .accepted .sized 0 (omega arith)) ∙ unlimited (section r i) _ (f .accepted .sized i l)
+      ∙ rw (shown-first (omega arith), shown-at r n ws f i l)

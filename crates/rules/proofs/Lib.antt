@@ -1,7 +1,6 @@
-pub mod Values
-pub mod Writes
+pub mod Listed
 pub mod Sources
-pub mod Latest
 pub mod Hidden
+pub mod Latest
 pub mod Pairs
 pub mod Unique

@@ -1,64 +1,24 @@
--- The write that a read sees, by the first action whose identifier has the same low byte.
-use Prim.Native.Nat.{ℕ, _+_, _%_, _<_, _≤_}
+-- The write that a read sees, as it is kept, and what 15 says of it.
+use Prim.Native.Nat.{ℕ, _+_, _<_, _≤_}
 use native.Mathlib.Nat.{eq-or-lt-of-le}
 use native.Mathlib.Omega.{arith}
-use mathlib.Core.Path.{_≡_, sym, ap, _∙_}
+use mathlib.Core.Path.{_≡_, refl, sym, ap, _∙_}
 use mathlib.Core.Logic.{⊎-elim}
-use mathlib.Core.Bool.{Bool, true, false, not, _&&_}
+use mathlib.Core.Bool.{Bool, true, false, not, cond, _&&_, and-false}
 use mathlib.Core.List.{List}
 use lib.Dec.{eqb, ltb, leb}
 use lib.ListN.{length, set, getD}
 use lib.Seq.{getD-set-same, getD-set-other}
-use borrow.Author.Tests.{eqb-false, eq-eqb, ne-eqb, ltb-true}
+use borrow.Author.Tests.{ltb-true, not-true, not-false}
 use Rattle.model.specs.Limits.{maxActions}
-use Rattle.model.specs.Search.{any, first, found, none}
-use Rattle.model.specs.Layout.{size, ident, seen, read}
-use Rattle.model.specs.Rules.{rival, seen-at, broken15}
-use Rattle.model.proofs.Search.{any-at, any-not, any-same, first-none, first-at}
-use Rattle.ordered.specs.Firsts.{ident-table, key, firsts}
-use Rattle.ordered.specs.Lists.{of-kinds}
-use Rattle.ordered.proofs.Searches.{and-left, and-right, any-nowhere, first-any, first-least, first-passes, found-nothing, found-something}
-use Rattle.ordered.proofs.Tables.{first-entry}
-use Rattle.rules.specs.Own.{own}
-use Rattle.rules.specs.Tests.{seen-write}
-use Rattle.rules.specs.Sources.{source}
+use Rattle.model.specs.Search.{first, none}
+use Rattle.model.specs.Layout.{size, ident, target, seen, read, write}
+use Rattle.model.specs.Rules.{rival, twin, seen-at, broken15}
+use Rattle.model.proofs.Bools.{both}
+use Rattle.model.proofs.Search.{any-at, first-is, first-any}
 use Rattle.ordered.proofs.Ways.{leb-not}
-use Rattle.rules.proofs.Writes.{and-rival}
-
--- other low bytes, other identifiers
-other : (x : List ℕ) (d m : ℕ) → any m (λ b. eqb (ident x b % 256) (d % 256)) ≡ false → any m (λ b. eqb (ident x b) d) ≡ false
-other x d m h =
-    any-nowhere _ m
-    (λ b u.
-    ne-eqb (ident x b) d
-    (λ e. eqb-false (ident x b % 256) (d % 256) (any-not (λ b. eqb (ident x b % 256) (d % 256)) m b u h) (rw e)))
-
-module _ (x : List ℕ) (few : size x ≤ maxActions) (a : ℕ) {l : List ℕ} {d v : ℕ} (t : l ≡ firsts x ident-table) (s : d ≡ seen x a) (m : v ≡ d % 256) where
-  abbrev low : ℕ → Bool
-  low b = eqb (ident x b % 256) (d % 256)
-
-  entry : getD l v 0 ≡ found (size x) low
-  unfolding key
-  entry = rw (t, m) (first-entry x ident-table (d % 256) (omega arith))
-
-  pub seen-none : getD l v 0 ≡ none → size x ≡ seen-at x a
-  unfolding seen-at
-  seen-none h =
-      rw (← s)
-      (sym
-      (first-none _ (size x)
-      (other x d (size x) (sym (first-any low (size x)) ∙ found-nothing low (size x) (omega arith) (sym entry ∙ h)))))
-
-  pub seen-here : (getD l v 0 ≡ none → ⊥) → ident x (getD l v 0) ≡ d → getD l v 0 ≡ seen-at x a
-  unfolding seen-at
-  seen-here h e =
-      let (same, some) = found-something low (size x) (λ z. h (entry ∙ z)) in
-      let q : first (size x) low ≡ getD l v 0 = same ∙ sym entry in
-      rw (← s)
-      (sym
-      (first-at _ (size x) (getD l v 0) (ltb-true (getD l v 0) (size x) (rw q at some))
-      (other x d (getD l v 0) (rw q at (first-least low (size x))))
-      (eq-eqb (ident x (getD l v 0)) d e)))
+use Rattle.rules.specs.Sources.{source}
+use Rattle.rules.specs.Searches.{seen-by}
 
 -- one entry more
 pub sources-more :
@@ -69,25 +29,69 @@ sources-more x l a {w} len f e b u =
     (λ (q : b < a). rw (getD-set-other l a b w 0 (λ z. omega arith)) (f b q))
     (eq-or-lt-of-le (let z : b ≤ a = omega arith in z))
 
-module _ (x : List ℕ) (a w : ℕ) (r : read x a ≡ true) (s : eqb (seen x a) 0 ≡ false) (e : w ≡ source x a) where
-  pub source-seen : w ≡ seen-at x a
+-- what is looked for among the writes
+module _ (x : List ℕ) (a b : ℕ) where
+  pub seen-writes : write x b ≡ false → seen-by x a b ≡ false
+  unfolding seen-by rival
+  seen-writes e = rw e (and-false (eqb (ident x b) (seen x a)))
+
+  pub sought-is : write x b ≡ true → {d v : ℕ} → d ≡ seen x a → v ≡ target x a → eqb (ident x b) d && eqb (target x b) v ≡ seen-by x a b
+  unfolding seen-by rival
+  sought-is e f g = rw (e, f, g)
+
+module _ (x : List ℕ) (few : size x ≤ maxActions) (a : ℕ) {w : ℕ} (e : w ≡ source x a) where
+  -- a is a read that sees an action
+  abbrev sees : Bool
+  sees = read x a && not (eqb (seen x a) 0)
+
+  kept-at : w ≡ cond sees (seen-at x a) none
   unfolding source
-  source-seen = e ∙ rw (r, s)
+  kept-at = e
+
+  pub source-none : w ≡ none → false ≡ sees
+  unfolding twin
+  source-none h = go sees refl
+    where
+      go : (t : Bool) → sees ≡ t → false ≡ t
+      go true q = absurd (let z : ⊥ = omega (arith, rw q at kept-at, first-is (λ b. eqb (ident x b) (seen x a)) (size x) .within) in z)
+      go false q = refl
+
+  -- a read that has none sees the initial write
+  pub source-initial : read x a ≡ true → w ≡ none → eqb (seen x a) 0 ≡ true
+  source-initial r h = not-false (eqb (seen x a) 0) (sym (rw r at (source-none h)))
+
+  pub record Seen : Type 0 where
+    pub reads : read x a ≡ true
+    pub some : eqb (seen x a) 0 ≡ false
+    pub at : w ≡ seen-at x a
+
+  pub source-some : (w ≡ none → ⊥) → Seen
+  source-some h = go sees refl
+    where
+      go : (t : Bool) → sees ≡ t → Seen
+      go true q =
+          let (r, s) = both (read x a) (not (eqb (seen x a) 0)) q in
+          record { reads = r; some = not-true (eqb (seen x a) 0) s; at = rw q at kept-at }
+      go false q = absurd (h (rw q at kept-at))
 
   -- 15: the first action with the identifier is a write to the variable
-  pub sees-write : ltb w (size x) && rival x a w ≡ true → false ≡ broken15 x a
-  unfolding broken15 seen-at
-  sees-write h =
-      let n = size x in
-      let below : ltb w n ≡ true = and-left (ltb w n) (rival x a w) h in
+  pub sees-write : (w ≡ none → ⊥) → ltb w (size x) && rival x a w ≡ true → false ≡ broken15 x a
+  unfolding broken15 seen-by twin
+  sees-write h k =
+      let s = source-some h in
+      let (below, rivals) = both (ltb w (size x)) (rival x a w) k in
       let same : eqb (ident x w) (seen x a) ≡ true =
-      rw (← source-seen) at (first-passes (λ b. eqb (ident x b) (seen x a)) n (rw source-seen at below)) in
-      rw (r, s, any-at (λ b. eqb (ident x b) (seen x a) && rival x a b) n w (ltb-true w n below) (rw (same, and-right (ltb w n) (rival x a w) h)))
+      rw (s .at) (first-is (λ b. eqb (ident x b) (seen x a)) (size x) .holds (ltb-true (seen-at x a) (size x) (rw (s .at) at below))) in
+      rw (
+        s .reads,
+        s .some,
+        any-at (seen-by x a) (size x) w (ltb-true w (size x) below) (rw (same, rivals)),
+      )
 
-  -- no write to the variable has the identifier
-  pub sees-none : {q : ℕ} → q ≡ first (size x) (λ b. of-kinds x 2 4 b && seen-write x (own x a w) b) → leb (size x) q ≡ broken15 x a
-  unfolding broken15
-  sees-none f =
-      rw (r, s, f)
-      (leb-not (size x) (first (size x) _)
-      ∙ ap not (first-any _ (size x) ∙ any-same _ _ (size x) (λ b u. sym (and-rival x a b (eqb (ident x b) (seen x a))))))
+  -- no write to the variable has it
+  pub sees-none : (w ≡ none → ⊥) → {b : ℕ} → b ≡ first (size x) (seen-by x a) → leb (size x) b ≡ broken15 x a
+  unfolding broken15 seen-by
+  sees-none h f =
+      let s = source-some h in
+      rw (s .reads, s .some, f)
+      (leb-not (size x) (first (size x) (seen-by x a)) ∙ ap not (first-any (seen-by x a) (size x)))

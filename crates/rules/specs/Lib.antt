@@ -1,5 +1,3 @@
--- What the code of the rules asks, between the fields that it reads and the rules of document 01.
-pub mod Own
-pub mod Tests
+-- What the code of the rules finds, between the fields that it reads and the rules of document 01.
 pub mod Sources
-pub mod Numbers
+pub mod Searches

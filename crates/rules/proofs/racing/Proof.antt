@@ -1,24 +1,16 @@
 -- `rules::racing` meets its contract.
-use borrow.Author.Tests.{le-leb, lt-leb}
-use Rattle.ordered.specs.Limit.{limited}
 use borrow.Author.Needs.{needs}
+use Rattle.positions.proofs.Limited.{over-limit, within-limit}
 use Rattle.rules.proofs.racing.Statement.{statement}
 use Rattle.rules.proofs.racing.Tie as tie
-
-returns : tie.Need-returns
-unfolding limited
-returns c = rw (lt-leb _ _ (rw (c .before .before .size .ensures) at (c .before .if1 .taken))) (c .numbered .ensures)
-
-returns-2 : tie.Need-returns-2
-unfolding limited
-returns-2 c = rw (le-leb _ _ (rw (c .before .before .size .ensures) at (c .before .if1 .left))) (c .least-pair .ensures)
 
 pub racing-spec : {M : Type 1} → statement M
 racing-spec =
     tie.close
     (tie.spec
     (λ c κs. search needs)
+    (λ c. search needs)
     (λ c κs. search needs)
-    returns
+    (λ c. over-limit _ _ (c .before .before .size .ensures) (c .before .if1 .taken) (c .numbered .ensures))
     (λ c κs. search needs)
-    returns-2)
+    (λ c. within-limit _ _ (c .before .before .size .ensures) (c .before .if1 .left) (c .least-pair .ensures)))

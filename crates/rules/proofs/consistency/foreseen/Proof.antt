@@ -8,7 +8,6 @@ pub foreseen-spec : {M : Type 1} → statement M
 foreseen-spec =
     tie.close
     (tie.spec
-    (λ c κs. search needs)
     (λ c. search ways)
     (λ c κs. search needs)
     (λ c. search ways))

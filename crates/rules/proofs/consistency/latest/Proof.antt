@@ -9,9 +9,9 @@ use lib.Dec.{leb}
 use lib.ListN.{getD}
 use borrow.Author.Tests.{le-leb}
 use Rattle.model.specs.Layout.{size, target, place}
-use Rattle.ordered.proofs.Searches.{and-left, and-right}
+use Rattle.model.proofs.Bools.{both}
 use Rattle.ordered.proofs.Ways.{was-on}
-use Rattle.ordered.proofs.Listing.{listed-fits}
+use Rattle.positions.proofs.Listing.{listed-fits}
 use Rattle.ordered.proofs.Best.{Pass, Kept, kept-none, kept-take, kept-keep}
 use Rattle.rules.proofs.Latest.{writes-pass, below, latest-at, latest-none}
 use borrow.Author.Needs.{needs}
@@ -31,14 +31,14 @@ loop-holds c = (
 )
 
 element-copy-out-b : tie.Need-element-copy-out-b Inv-loop μ-loop
-element-copy-out-b c = omega (arith, listed-fits _ (λ b. true) _ (c .before .before .before .before .before .pre))
+element-copy-out-b c = omega (arith, listed-fits (c .before .before .before .before .before .pre))
 
 add-from : tie.Need-add-from Inv-loop μ-loop
 add-from c =
     omega (
       arith,
       below (c .before .before .before .before .before .before .before .before .before .args .x .now) (c .before .before .before .before .before .before .before .target .result) (c .before .before .before .before .before .before .place .result) (c .before .before .before .before .before .loop .from) (getD (c .before .before .before .before .before .before .before .before .before .args .list .now) (c .before .before .before .before .before .loop .j) 0)
-          (was-on (c .before .before .between .ensures) (c .before .if1 .taken)),
+          (was-on (c .before .before .in-range .ensures) (c .before .if1 .taken)),
       c .place2 .ensures,
     )
 
@@ -47,10 +47,10 @@ loop-again c = (
   omega arith,
   ⊎-elim
       (λ w.
-      let h : (s .candidate) j && leb f (place x b) ≡ true = sym (c .before .between .ensures) ∙ w .0 .taken in
+      let h : (s .candidate) j && leb f (place x b) ≡ true = sym (c .before .in-range .ensures) ∙ w .0 .taken in
       rw (w .2, w .3, w .1 .ensures)
-      (kept-take s m j t f k (and-left ((s .candidate) j) (leb f (place x b)) h) (and-right ((s .candidate) j) (leb f (place x b)) h)))
-      (λ w. rw (w .1, w .2) (keep (sym (c .before .between .ensures) ∙ w .0 .left)))
+      (let (is, better) = both ((s .candidate) j) (leb f (place x b)) h in kept-take s m j t f k is better))
+      (λ w. rw (w .1, w .2) (keep (sym (c .before .in-range .ensures) ∙ w .0 .left)))
       (c .if1 .came),
 )
   where
@@ -85,7 +85,7 @@ loop-again c = (
     keep = kept-keep s m j t f k (λ h. le-leb 0 (place x b) (omega arith))
 
 element-copy-out-result : tie.Need-element-copy-out-result Inv-loop μ-loop
-element-copy-out-result c = omega (arith, listed-fits _ (λ b. true) _ (c .before .before .before .before .before .before .pre))
+element-copy-out-result c = omega (arith, listed-fits (c .before .before .before .before .before .before .pre))
 
 returns : tie.Need-returns Inv-loop μ-loop
 returns c =

@@ -1,0 +1,29 @@
+-- `rules::consistency::first17` meets its contract: no action before a breaks the rule.
+use Prim.Native.Nat.{_-_}
+use native.Mathlib.Omega.{arith}
+use borrow.Author.Needs.{needs}
+use Rattle.model.specs.Rules.{broken17}
+use Rattle.positions.proofs.Passed.{Passed, passed-none, passed-more, passed-here, passed-all}
+use Rattle.rules.proofs.consistency.first17.Statement.{statement}
+use Rattle.rules.proofs.consistency.first17.Tie as tie
+
+abbrev Inv-loop : tie.InvT-loop
+Inv-loop x list count n a₀ a = Passed (broken17 x) n a
+
+abbrev μ-loop : tie.MeasureT-loop
+μ-loop x list count n a₀ a = n - a
+
+pub first17-spec : {M : Type 1} → statement M
+first17-spec =
+    tie.close
+    (tie.spec
+    Inv-loop
+    μ-loop
+    (λ c κs. search needs)
+    (λ c. passed-none _ _)
+    (λ c κs. search needs)
+    (λ c. passed-here (c .before .before .before .loop .inv) (c .before .before .before .before .size .ensures) (omega arith) (c .before .broken17 .ensures) (c .if1 .taken))
+    (λ c. search needs)
+    (λ c. search needs)
+    (λ c. passed-more (c .before .before .before .loop .inv) (omega arith) (c .before .broken17 .ensures) (c .if1 .left))
+    (λ c. passed-all (c .before .loop .inv) (c .before .before .size .ensures) (omega arith)))

@@ -2,7 +2,7 @@
 use Prim.Native.Nat.{ℕ, _<_}
 use mathlib.Core.List.{List}
 use mathlib.Core.Logic.{_↔_, inl, inr}
-use Rattle.model.specs.Layout.{size}
+use Rattle.model.specs.Layout.{header, size}
 use Rattle.model.proofs.Serial.{Order}
 use Rattle.laws.proofs.Consistent.{Consistent, Shows, checked-orders}
 use Rattle.laws.proofs.Consistent.Fields.{checked-passed}
@@ -52,10 +52,10 @@ demand3 r free = (
 )
   where
     passed : Passed (E r)
-    passed = checked-passed r 0 (E r) (checked r free)
+    passed = checked-passed (header r) 0 (E r) (checked r free)
 
     orders : Consistent (E r) ↔ ((l : List ℕ) → Order (E r) l → Shows (E r) l)
-    orders = checked-orders r 0 (E r) (checked r free)
+    orders = checked-orders (header r) 0 (E r) (checked r free)
 
 pub demand3-sequences : Demand3-sequences
 demand3-sequences r free = (

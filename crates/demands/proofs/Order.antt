@@ -12,7 +12,7 @@ use Rattle.model.specs.declared.Answer.{Answer}
 use Rattle.model.specs.Limits.{partWords}
 use Rattle.model.specs.Search.{found, none}
 use Rattle.model.specs.Answers.{rule, naming, _then_}
-use Rattle.model.specs.Layout.{size}
+use Rattle.model.specs.Layout.{header, size}
 use Rattle.model.specs.Relations.{hb}
 use Rattle.model.specs.Rules.{broken15, broken16, broken17, broken18, ordered, consistent, well-formed, racing}
 use Rattle.model.specs.Serial.{serial}
@@ -115,7 +115,7 @@ order-answers r lent room u free =
 -- the order of document 01
 module _ (r : List ℕ) (free : RaceFree r) where
   placed : Placed (E r)
-  placed = checked-passed r 0 (E r) (checked r free) .placed
+  placed = checked-passed (header r) 0 (E r) (checked r free) .placed
 
   sequence : Sequence (E r) (serial (E r) (size (E r)))
   sequence = sequence-of (E r) (serial (E r) (size (E r))) (serial-order (E r) placed)

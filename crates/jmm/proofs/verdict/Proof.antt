@@ -5,7 +5,8 @@ use borrow.Author.Needs.{needs}
 use Rattle.model.specs.Questions.{verdict, verdict-words, verdict-refusal}
 use Rattle.model.specs.declared.Answer.{Answer}
 use Rattle.jmm.proofs.Shown.{filled-parts}
-use Rattle.jmm.proofs.Passed.{accepted, few-sections}
+use Rattle.record.proofs.Unrefused.{unrefused}
+use Rattle.jmm.proofs.Passed.{accepted}
 use Rattle.model.proofs.Answers.{ends, goes-on}
 use Rattle.jmm.proofs.Left.{untouched, left-filled}
 use Rattle.jmm.proofs.verdict.Statement.{statement}
@@ -20,7 +21,7 @@ returns c =
 add-fill-parts : tie.Need-add-fill-parts
 add-fill-parts c =
     let k = c .before .before .before .before .justifying .ensures in
-    let few = few-sections _ _ _ (sym (ap (λ (q : Answer). q .n) (c .before .before .before .refusal .ensures)) ∙ c .before .if1 .left) in
+    let few = unrefused _ _ _ (sym (ap (λ (q : Answer). q .n) (c .before .before .before .refusal .ensures)) ∙ c .before .if1 .left) .few-sections in
     search needs
 
 fill-parts-requires : tie.Need-fill-parts-requires

@@ -26,9 +26,10 @@ abbrev pub writes-pass : List ℕ → List ℕ → ℕ → ℕ → Pass
 writes-pass x l v p = largest-pass (λ j. sooner x v p (getD l j 0)) (λ j. place x (getD l j 0)) 0
 
 -- what is better than the best so far is below p
-pub below : (x : List ℕ) (v p f b : ℕ) → sooner x v p b && leb f (place x b) ≡ true → place x b < p
-below x v p f b h =
-    ltb-true (place x b) p (both (eqb (target x b) v) (ltb (place x b) p) (both (sooner x v p b) (leb f (place x b)) h .0) .1)
+pub below : (x : List ℕ) (v p f b : ℕ) {t : Bool} → t ≡ sooner x v p b && leb f (place x b) → t ≡ true → place x b < p
+below x v p f b e h =
+    let (is, better) = both (sooner x v p b) (leb f (place x b)) (sym e ∙ h) in
+    ltb-true (place x b) p (both (eqb (target x b) v) (ltb (place x b) p) is .1)
 
 module _ (x l : List ℕ) (m a : ℕ) {v p : ℕ} (h : Listed (write x) (size x) l m) (e : v ≡ target x a) (q : p ≡ place x a) where
   -- no write in the list has a larger place than b

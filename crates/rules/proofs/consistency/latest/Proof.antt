@@ -8,9 +8,8 @@ use mathlib.Core.Logic.{⊎-elim}
 use lib.Dec.{leb}
 use lib.ListN.{getD}
 use borrow.Author.Tests.{le-leb}
-use Rattle.model.specs.Layout.{size, target, place}
+use Rattle.model.specs.Layout.{place}
 use Rattle.model.proofs.Bools.{both}
-use Rattle.ordered.proofs.Ways.{was-on}
 use Rattle.positions.proofs.Listing.{listed-fits}
 use Rattle.ordered.proofs.Best.{Pass, Kept, kept-none, kept-take, kept-keep}
 use Rattle.rules.proofs.Latest.{writes-pass, below, latest-at, latest-none}
@@ -25,20 +24,18 @@ abbrev μ-loop : tie.MeasureT-loop
 μ-loop x list m a v p best₀ from₀ j₀ best from j = m - j
 
 loop-holds : tie.Need-loop-holds Inv-loop μ-loop
-loop-holds c = (
-  omega arith,
-  kept-none (writes-pass (c .before .before .before .args .x .now) (c .before .before .before .args .list .now) (c .before .target .result) (c .place .result)) (c .before .before .before .args .count),
-)
-
-element-copy-out-b : tie.Need-element-copy-out-b Inv-loop μ-loop
-element-copy-out-b c = omega (arith, listed-fits (c .before .before .before .before .before .pre))
+loop-holds c =
+    let start = c .before .before .before in
+    (omega arith, kept-none (writes-pass (start .args .x .now) (start .args .list .now) (c .before .target .result) (c .place .result)) (start .args .count))
 
 add-from : tie.Need-add-from Inv-loop μ-loop
 add-from c =
+    let at = c .before .before .before .before .before in
+    let start = at .before .before .before .before in
     omega (
       arith,
-      below (c .before .before .before .before .before .before .before .before .before .args .x .now) (c .before .before .before .before .before .before .before .target .result) (c .before .before .before .before .before .before .place .result) (c .before .before .before .before .before .loop .from) (getD (c .before .before .before .before .before .before .before .before .before .args .list .now) (c .before .before .before .before .before .loop .j) 0)
-          (was-on (c .before .before .in-range .ensures) (c .before .if1 .taken)),
+      below (start .args .x .now) (at .before .before .target .result) (at .before .place .result) (at .loop .from) (getD (start .args .list .now) (at .loop .j) 0)
+          (c .before .before .in-range .ensures) (c .before .if1 .taken),
       c .place2 .ensures,
     )
 
@@ -84,21 +81,22 @@ loop-again c = (
     keep : (s .candidate) j && leb f (place x b) ≡ false → Kept s m (j + 1) t f
     keep = kept-keep s m j t f k (λ h. le-leb 0 (place x b) (omega arith))
 
-element-copy-out-result : tie.Need-element-copy-out-result Inv-loop μ-loop
-element-copy-out-result c = omega (arith, listed-fits (c .before .before .before .before .before .before .pre))
-
 returns : tie.Need-returns Inv-loop μ-loop
 returns c =
-    let e : c .before .before .before .loop .j ≡ c .before .before .before .before .before .before .before .args .count = omega arith in
-    latest-at (c .before .before .before .before .before .before .before .args .x .now) (c .before .before .before .before .before .before .before .args .list .now) (c .before .before .before .before .before .before .before .args .count) (c .before .before .before .before .before .before .before .args .a) (c .before .before .before .before .before .before .before .pre) (c .before .before .before .before .before .target .ensures) (c .before .before .before .before .place .ensures)
-    (c .before .before .before .loop .best) (c .before .before .before .loop .from) (rw e at (c .before .before .before .loop .inv .1)) (c .before .if2 .taken)
+    let at = c .before .before .before in
+    let start = at .before .before .before .before in
+    let e : at .loop .j ≡ start .args .count = omega arith in
+    latest-at (start .args .x .now) (start .args .list .now) (start .args .count) (start .args .a) (start .pre) (at .before .before .target .ensures) (at .before .place .ensures)
+    (at .loop .best) (at .loop .from) (rw e at (at .loop .inv .1)) (c .before .if2 .taken)
 
 returns-2 : tie.Need-returns-2 Inv-loop μ-loop
 returns-2 c =
-    let e : c .before .before .before .loop .j ≡ c .before .before .before .before .before .before .before .args .count = omega arith in
+    let at = c .before .before .before in
+    let start = at .before .before .before .before in
+    let e : at .loop .j ≡ start .args .count = omega arith in
     c .size .ensures
-    ∙ latest-none (c .before .before .before .before .before .before .before .args .x .now) (c .before .before .before .before .before .before .before .args .list .now) (c .before .before .before .before .before .before .before .args .count) (c .before .before .before .before .before .before .before .args .a) (c .before .before .before .before .before .before .before .pre) (c .before .before .before .before .before .target .ensures) (c .before .before .before .before .place .ensures)
-    (c .before .before .before .loop .best) (c .before .before .before .loop .from) (rw e at (c .before .before .before .loop .inv .1)) (c .before .if2 .left)
+    ∙ latest-none (start .args .x .now) (start .args .list .now) (start .args .count) (start .args .a) (start .pre) (at .before .before .target .ensures) (at .before .place .ensures)
+    (at .loop .best) (at .loop .from) (rw e at (at .loop .inv .1)) (c .before .if2 .left)
 
 pub latest-spec : {M : Type 1} → statement M
 latest-spec =
@@ -111,7 +109,7 @@ latest-spec =
     loop-holds
     (λ c. search needs)
     (λ c. search needs)
-    element-copy-out-b
+    (λ c. omega (arith, listed-fits (c .before .before .before .before .before .pre)))
     (λ c κs. search needs)
     (λ c κs. search needs)
     add-from
@@ -120,7 +118,7 @@ latest-spec =
     loop-again
     (λ c. search needs)
     (λ c. search needs)
-    element-copy-out-result
+    (λ c. omega (arith, listed-fits (c .before .before .before .before .before .before .pre)))
     (λ c κs. search needs)
     returns
     returns-2)

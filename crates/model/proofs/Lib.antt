@@ -1,5 +1,7 @@
 pub mod Bools
 pub mod Search
+pub mod Ways
+pub mod Best
 pub mod Words
 pub mod Answers
 pub mod Bench

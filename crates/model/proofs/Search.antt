@@ -6,11 +6,10 @@ use native.Mathlib.Decide.{decLt, ℕ-discrete}
 use native.Mathlib.Omega.{arith}
 use mathlib.Core.Path.{_≡_, refl, sym, ap₂, _∙_}
 use mathlib.Core.Logic.{⊎-elim}
-use mathlib.Core.Bool.{Bool, true, false, cond, _&&_, _||_, or-true, false≢true, true≢false}
+use mathlib.Core.Bool.{Bool, true, false, cond, _&&_, _||_, or-true, false≢true}
 use lib.Dec.{ltb, leb}
 use borrow.Author.Tests.{lt-ltb, le-ltb, le-leb, lt-leb, ltb-true, ltb-false}
 use Rattle.model.specs.Search.{any, first, count, found, none}
-use Rattle.model.proofs.Bools.{either}
 
 module _ (p : ℕ → Bool) where
   -- one position more

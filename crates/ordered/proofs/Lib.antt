@@ -1,4 +1,2 @@
-pub mod Ways
-pub mod Best
 pub mod Largest
 pub mod Unique

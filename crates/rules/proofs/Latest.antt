@@ -15,7 +15,7 @@ use Rattle.model.proofs.Bools.{both}
 use Rattle.model.proofs.Search.{any-same, first-same}
 use Rattle.positions.specs.Lists.{pick, Listed}
 use Rattle.positions.proofs.Listing.{any-listed, pick-listed, pick-at, pick-none}
-use Rattle.ordered.proofs.Best.{Pass, largest-pass, Kept, searched}
+use Rattle.model.proofs.Best.{Pass, largest-pass, Kept, searched}
 
 -- b is on the variable v, at a place below p
 abbrev pub sooner : List ℕ → ℕ → ℕ → ℕ → Bool

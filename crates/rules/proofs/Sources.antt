@@ -16,7 +16,7 @@ use Rattle.model.specs.Layout.{size, ident, target, seen, read, write}
 use Rattle.model.specs.Rules.{rival, twin, seen-at, broken15}
 use Rattle.model.proofs.Bools.{both}
 use Rattle.model.proofs.Search.{any-at, first-is, first-any}
-use Rattle.ordered.proofs.Ways.{leb-not}
+use Rattle.model.proofs.Ways.{leb-not}
 use Rattle.rules.specs.Sources.{source}
 use Rattle.rules.specs.Searches.{seen-by}
 

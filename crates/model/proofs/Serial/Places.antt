@@ -6,7 +6,7 @@ use native.Mathlib.Omega.{arith}
 use mathlib.Core.Path.{_≡_, refl, sym}
 use mathlib.Core.List.{List}
 use mathlib.Core.Logic.{⊎-elim}
-use mathlib.Core.Bool.{Bool, true, false, _&&_, _||_, false≢true}
+use mathlib.Core.Bool.{Bool, true, false, _&&_}
 use lib.Dec.{eqb, ltb}
 use borrow.Author.Tests.{ltb-false, eqb-false, eq-eqb}
 use Rattle.model.specs.Search.{any, count}

@@ -1,6 +1,6 @@
 -- `ordered::monitors::broken13` meets its contract.
 use Rattle.model.specs.Rules.{broken13}
-use Rattle.ordered.proofs.Ways.{ways}
+use Rattle.model.proofs.Ways.{ways}
 use borrow.Author.Needs.{needs}
 use Rattle.ordered.proofs.monitors.broken13.Statement.{statement}
 use Rattle.ordered.proofs.monitors.broken13.Tie as tie

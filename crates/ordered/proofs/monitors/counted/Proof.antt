@@ -1,7 +1,7 @@
 -- `ordered::monitors::counted` meets its contract.
 use native.Mathlib.Omega.{arith}
 use mathlib.Core.Path.{refl}
-use Rattle.ordered.proofs.Ways.{unequal, not-lower, equal, lower}
+use Rattle.model.proofs.Ways.{unequal, not-lower, equal, lower}
 use borrow.Author.Needs.{needs}
 use Rattle.ordered.proofs.monitors.counted.Statement.{statement}
 use Rattle.ordered.proofs.monitors.counted.Tie as tie

@@ -13,7 +13,7 @@ use Rattle.model.specs.Rules.{least, broken13}
 use Rattle.positions.specs.Lists.{locks}
 use Rattle.positions.proofs.Sets.{are-locks}
 use Rattle.positions.proofs.Listing.{is-listed}
-use Rattle.ordered.proofs.Best.{Pass, least-pass, Kept, kept-none, kept-take, kept-keep, kept-found}
+use Rattle.model.proofs.Best.{Pass, least-pass, Kept, kept-none, kept-take, kept-keep, kept-found}
 use borrow.Author.Needs.{needs}
 use Rattle.ordered.proofs.monitors.least13.Statement.{statement}
 use Rattle.ordered.proofs.monitors.least13.Tie as tie

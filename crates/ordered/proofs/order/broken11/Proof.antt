@@ -8,7 +8,7 @@ use Rattle.model.specs.Rules.{broken11}
 use Rattle.model.proofs.Search.{count-le}
 use Rattle.positions.specs.Firsts.{keys}
 use Rattle.positions.proofs.Tables.{place-before}
-use Rattle.ordered.proofs.Ways.{ways, flag-on}
+use Rattle.model.proofs.Ways.{ways, flag-on}
 use borrow.Author.Needs.{needs}
 use Rattle.ordered.proofs.order.broken11.Statement.{statement}
 use Rattle.ordered.proofs.order.broken11.Tie as tie

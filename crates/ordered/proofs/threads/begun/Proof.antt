@@ -14,7 +14,7 @@ use Rattle.model.proofs.Search.{found-nothing, found-something}
 use Rattle.positions.specs.Firsts.{keys, firsts}
 use Rattle.positions.specs.declared.firsts.Key.the-variants.{Thread}
 use Rattle.positions.proofs.Tables.{first-entry}
-use Rattle.ordered.proofs.Ways.{ways}
+use Rattle.model.proofs.Ways.{ways}
 use Rattle.ordered.proofs.threads.begun.Statement.{statement}
 use Rattle.ordered.proofs.threads.begun.Tie as tie
 

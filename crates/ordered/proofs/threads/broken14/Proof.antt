@@ -3,7 +3,7 @@ use native.Mathlib.Omega.{arith}
 use Rattle.model.specs.Rules.{broken14}
 use Rattle.positions.proofs.Tables.{thread-before}
 use Rattle.ordered.proofs.Largest.{last-after}
-use Rattle.ordered.proofs.Ways.{ways}
+use Rattle.model.proofs.Ways.{ways}
 use borrow.Author.Needs.{needs}
 use Rattle.ordered.proofs.threads.broken14.Statement.{statement}
 use Rattle.ordered.proofs.threads.broken14.Tie as tie

@@ -5,7 +5,7 @@ use lib.ListN.{getD}
 use borrow.Author.Tests.{lt-ltb, le-ltb}
 use Rattle.model.specs.Rules.{misstarted}
 use Rattle.positions.proofs.Tables.{start-before}
-use Rattle.ordered.proofs.Ways.{ways, equal-to}
+use Rattle.model.proofs.Ways.{ways, equal-to}
 use borrow.Author.Needs.{needs}
 use Rattle.ordered.proofs.threads.misstarted.Statement.{statement}
 use Rattle.ordered.proofs.threads.misstarted.Tie as tie

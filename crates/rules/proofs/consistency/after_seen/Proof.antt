@@ -1,5 +1,5 @@
 -- `rules::consistency::after_seen` meets its contract.
-use Rattle.ordered.proofs.Ways.{ways}
+use Rattle.model.proofs.Ways.{ways}
 use borrow.Author.Needs.{needs}
 use Rattle.rules.proofs.consistency.after_seen.Statement.{statement}
 use Rattle.rules.proofs.consistency.after_seen.Tie as tie

@@ -1,6 +1,6 @@
 -- `rules::consistency::broken17` meets its contract.
 use Rattle.model.specs.Rules.{broken17}
-use Rattle.ordered.proofs.Ways.{ways, equal}
+use Rattle.model.proofs.Ways.{ways, equal}
 use borrow.Author.Needs.{needs}
 use Rattle.rules.proofs.consistency.broken17.Statement.{statement}
 use Rattle.rules.proofs.consistency.broken17.Tie as tie

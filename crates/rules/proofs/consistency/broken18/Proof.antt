@@ -2,7 +2,7 @@
 use mathlib.Core.Path.{sym, _∙_}
 use borrow.Author.Needs.{needs}
 use Rattle.model.specs.Rules.{broken18}
-use Rattle.ordered.proofs.Ways.{ways}
+use Rattle.model.proofs.Ways.{ways}
 use Rattle.rules.proofs.Hidden.{hidden-breaks}
 use Rattle.rules.proofs.consistency.broken18.Statement.{statement}
 use Rattle.rules.proofs.consistency.broken18.Tie as tie

@@ -1,5 +1,5 @@
 -- `rules::consistency::foreseen` meets its contract.
-use Rattle.ordered.proofs.Ways.{ways}
+use Rattle.model.proofs.Ways.{ways}
 use borrow.Author.Needs.{needs}
 use Rattle.rules.proofs.consistency.foreseen.Statement.{statement}
 use Rattle.rules.proofs.consistency.foreseen.Tie as tie

@@ -1,5 +1,5 @@
 -- `rules::consistency::hides` meets its contract.
-use Rattle.ordered.proofs.Ways.{ways}
+use Rattle.model.proofs.Ways.{ways}
 use borrow.Author.Needs.{needs}
 use Rattle.rules.proofs.consistency.hides.Statement.{statement}
 use Rattle.rules.proofs.consistency.hides.Tie as tie

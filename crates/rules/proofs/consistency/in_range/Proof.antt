@@ -1,5 +1,5 @@
 -- `rules::consistency::in_range` meets its contract.
-use Rattle.ordered.proofs.Ways.{ways}
+use Rattle.model.proofs.Ways.{ways}
 use borrow.Author.Needs.{needs}
 use Rattle.rules.proofs.consistency.in_range.Statement.{statement}
 use Rattle.rules.proofs.consistency.in_range.Tie as tie

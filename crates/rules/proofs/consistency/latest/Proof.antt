@@ -11,7 +11,7 @@ use borrow.Author.Tests.{le-leb}
 use Rattle.model.specs.Layout.{place}
 use Rattle.model.proofs.Bools.{both}
 use Rattle.positions.proofs.Listing.{listed-fits}
-use Rattle.ordered.proofs.Best.{Pass, Kept, kept-none, kept-take, kept-keep}
+use Rattle.model.proofs.Best.{Pass, Kept, kept-none, kept-take, kept-keep}
 use Rattle.rules.proofs.Latest.{writes-pass, below, latest-at, latest-none}
 use borrow.Author.Needs.{needs}
 use Rattle.rules.proofs.consistency.latest.Statement.{statement}

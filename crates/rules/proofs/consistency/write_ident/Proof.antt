@@ -1,7 +1,7 @@
 -- `rules::consistency::write_ident` meets its contract.
 use mathlib.Core.Path.{refl}
 use Rattle.model.specs.Rules.{write-ident}
-use Rattle.ordered.proofs.Ways.{lower, not-lower}
+use Rattle.model.proofs.Ways.{lower, not-lower}
 use borrow.Author.Needs.{needs}
 use Rattle.rules.proofs.consistency.write_ident.Statement.{statement}
 use Rattle.rules.proofs.consistency.write_ident.Tie as tie

@@ -1,5 +1,5 @@
 -- `rules::races::conflicting` meets its contract.
-use Rattle.ordered.proofs.Ways.{ways}
+use Rattle.model.proofs.Ways.{ways}
 use borrow.Author.Needs.{needs}
 use Rattle.rules.proofs.races.conflicting.Statement.{statement}
 use Rattle.rules.proofs.races.conflicting.Tie as tie

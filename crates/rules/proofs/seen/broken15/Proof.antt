@@ -1,7 +1,7 @@
 -- `rules::seen::broken15` meets its contract.
 use mathlib.Core.Path.{sym, _∙_}
 use Rattle.model.specs.Rules.{broken15}
-use Rattle.ordered.proofs.Ways.{fails}
+use Rattle.model.proofs.Ways.{fails}
 use Rattle.rules.proofs.Sources.{source-none, sees-write, sees-none}
 use borrow.Author.Needs.{needs}
 use Rattle.rules.proofs.seen.broken15.Statement.{statement}

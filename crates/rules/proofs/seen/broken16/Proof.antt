@@ -2,7 +2,7 @@
 use lib.IntN.{pos}
 use Rattle.model.specs.Rules.{seen-value, broken16}
 use Rattle.model.proofs.Signed.{same-bits}
-use Rattle.ordered.proofs.Ways.{ways, flag-on}
+use Rattle.model.proofs.Ways.{ways, flag-on}
 use Rattle.rules.proofs.Sources.{source-initial, source-some}
 use borrow.Author.Needs.{needs}
 use Rattle.rules.proofs.seen.broken16.Statement.{statement}

@@ -1,5 +1,5 @@
 -- `rules::seen::sought` meets its contract.
-use Rattle.ordered.proofs.Ways.{ways}
+use Rattle.model.proofs.Ways.{ways}
 use borrow.Author.Needs.{needs}
 use Rattle.rules.proofs.seen.sought.Statement.{statement}
 use Rattle.rules.proofs.seen.sought.Tie as tie

@@ -3,7 +3,7 @@ use native.Mathlib.Omega.{arith}
 use mathlib.Core.Path.{ap, _∙_}
 use Rattle.model.specs.Rules.{twin}
 use Rattle.positions.proofs.Slots.{slot-twin}
-use Rattle.ordered.proofs.Ways.{flag-on, flag-off, equal, unequal}
+use Rattle.model.proofs.Ways.{flag-on, flag-off, equal, unequal}
 use Rattle.rules.specs.Sources.{source}
 use borrow.Author.Needs.{needs}
 use Rattle.rules.proofs.seen.source.Statement.{statement}

@@ -1,7 +1,7 @@
 -- `rules::seen::written` meets its contract.
 use mathlib.Core.Path.{refl}
 use Rattle.model.specs.Rules.{rival}
-use Rattle.ordered.proofs.Ways.{ways, flag-on, lower}
+use Rattle.model.proofs.Ways.{ways, flag-on, lower}
 use borrow.Author.Needs.{needs}
 use Rattle.rules.proofs.seen.written.Statement.{statement}
 use Rattle.rules.proofs.seen.written.Tie as tie

@@ -2,7 +2,7 @@
 use Prim.Native.Nat.{ℕ, _+_, _<_, _≤_}
 use native.Mathlib.Decide.{decLt, ℕ-discrete}
 use native.Mathlib.Omega.{arith}
-use mathlib.Core.Path.{_≡_, refl, sym, ap, _∙_}
+use mathlib.Core.Path.{_≡_, refl, sym, _∙_}
 use mathlib.Core.List.{List}
 use mathlib.Core.Bool.{Bool, true, false, not, _&&_, _||_, or-true, and-false, and-true, false≢true}
 use mathlib.Core.Logic.{⊎-elim}
@@ -59,7 +59,7 @@ module _ (x : List ℕ) (n : ℕ) (fit : any n (unfit x) ≡ false) (timely : an
   sw-line = sw-table x a b ∙ go (hands x a b) refl
     where
       same : eqb (given-row x a) (taken-row x b) ≡ hands x a b
-      same = same-row x a (small x n fit a from .1) b (small x n fit b to .2)
+      same = same-row x a b (small x n fit a from .1) (small x n fit b to .2)
 
       go : (t : Bool) → hands x a b ≡ t → hands x a b && (not (row x a .gives .placed) || ltb (place x a) (place x b)) ≡ ltb a b && eqb (given-row x a) (taken-row x b)
       go false h = rw (same, h) (sym (and-false (ltb a b)))

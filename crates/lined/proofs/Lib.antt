@@ -2,5 +2,6 @@
 pub mod Objects
 pub mod Line
 pub mod Edges
+pub mod Bit
 pub mod Passing
 pub mod Unique

@@ -4,24 +4,26 @@ use native.Mathlib.Decide.{decLe, ℕ-discrete}
 use native.Mathlib.Omega.{arith}
 use mathlib.Core.Path.{_≡_, refl, sym, _∙_}
 use mathlib.Core.List.{List}
+use mathlib.Core.Logic.{⊎-elim}
 use mathlib.Core.Bool.{Bool, true, false, not, cond, _&&_, _||_, or-true, or-false, and-false}
 use lib.ListN.{length, getD, set, replicate, getD-replicate}
 use lib.Seq.{getD-set-same, getD-set-other}
 use lib.Dec.{eqb, ltb, leb}
-use borrow.Author.Tests.{lt-ltb, le-ltb, le-leb, lt-leb, eq-eqb, ne-eqb, leb-false, not-true, not-false}
+use borrow.Author.Tests.{lt-ltb, le-ltb, le-leb, lt-leb, eq-eqb, ne-eqb, eqb-true, ltb-true, ltb-false, leb-false, not-true, not-false}
 use Rattle.model.specs.Limits.{maxActions, partWords}
 use Rattle.model.specs.Search.{any}
 use Rattle.model.specs.WorkArea.{part}
-use Rattle.model.specs.Layout.{size, thread, place, row}
-use Rattle.model.proofs.Bools.{neither}
-use Rattle.model.proofs.Search.{any-none, any-more, any-at, any-not}
+use Rattle.model.specs.Layout.{size, thread, target, place, row, sync}
+use Rattle.model.proofs.Bools.{both, either, neither}
+use Rattle.model.proofs.Search.{any-none, any-more, any-at, any-not, any-never}
 use Rattle.relations.specs.declared.Object.{Object}
 use Rattle.relations.specs.Objects.{given, taken}
-use Rattle.lined.specs.Line.{given-row, taken-row, broad, placed, reached, unfit, taken-before, late, lined, lined-part}
+use Rattle.lined.specs.Line.{given-row, taken-row, broad, placed, reached, unfit, freely, taken-before, late, lined, lined-part}
+use Rattle.lined.proofs.Objects.{given-class, taken-some, given-placed, given-freely, taken-freely, given-number, taken-number}
 
--- the rows that an action before a takes are marked in ts
+-- the rows for which places do not decide are marked in ts where an action before a takes them
 abbrev pub Marks : List ℕ → ℕ → List ℕ → Type 0
-Marks x a ts = (o : ℕ) → o < 258 → eqb (getD ts o 0) 1 ≡ taken-before x a o
+Marks x a ts = (o : ℕ) → 128 ≤ o → o < 320 → eqb (getD ts o 0) 1 ≡ taken-before x a o
 
 module _ (x : List ℕ) (a : ℕ) where
   -- one test after another
@@ -29,6 +31,14 @@ module _ (x : List ℕ) (a : ℕ) where
     pub broad-thread : 64 ≤ t → true ≡ broad x a
     unfolding broad
     broad-thread h = rw (le-leb 64 (thread x a) (omega arith))
+
+    module _ (h : t < 64) {u : ℕ} (aim : u ≡ target x a) where
+      pub broad-small : u < 64 → false ≡ broad x a
+      unfolding broad
+      broad-small k =
+          let p = given-number x a (omega arith) (omega arith) in
+          let q = taken-number x a (omega arith) (omega arith) in
+          rw (lt-leb 64 (thread x a) (omega arith), lt-leb 64 (given x a .number) p, lt-leb 64 (taken x a .number) q)
 
     module _ (h : t < 64) {g : Object} (gives : g ≡ given x a) where
       pub broad-given : 64 ≤ g .number → true ≡ broad x a
@@ -74,22 +84,31 @@ module _ (x : List ℕ) (a : ℕ) where
               | no g ↦ rw (le-ltb p due (omega arith), lt-leb p (place x a) (omega arith), le-ltb p (q + 1) (omega arith))
             ])
 
+  unplaced : freely x a ≡ true → row x a .gives .placed ≡ false
+  unplaced f =
+      neither (row x a .gives .placed) (row x a .takes .placed) (not-true (placed x a) (both (not (placed x a)) (sync x a) f .0)) .0
+
   -- the rows that those before a take are marked
   module _ (ts : List ℕ) (marks : Marks x a ts) where
-    pub late-marked : given-row x a < 258 → not (row x a .gives .placed) && eqb (getD ts (given-row x a) 0) 1 ≡ late x a
+    pub late-marked : freely x a ≡ true → 128 ≤ given-row x a → given-row x a < 320 → eqb (getD ts (given-row x a) 0) 1 ≡ late x a
     unfolding late
-    late-marked l = rw (marks (given-row x a) l)
+    late-marked f h g = rw (unplaced f, marks (given-row x a) h g)
 
-    pub marks-more : length ts ≡ 258 → {i : ℕ} → i ≡ taken-row x a → i < 258 → Marks x (a + 1) (set ts i 1)
+    pub marks-more : length ts ≡ 384 → {i : ℕ} → i ≡ taken-row x a → i < 384 → Marks x (a + 1) (set ts i 1)
     unfolding taken-before
-    marks-more len {i} e l o h =
+    marks-more len {i} e l o h g =
         elim (ℕ-discrete o i) [
           | yes q ↦
               rw (q, getD-set-same ts i 1 0 (omega arith)) (sym (any-more (λ b. eqb i (taken-row x b)) a ∙ rw (← e, eq-eqb i i refl) (or-true (taken-before x a i))))
           | no n ↦
               rw (getD-set-other ts i o 1 0 n)
-              (marks o h ∙ sym (any-more (λ b. eqb o (taken-row x b)) a ∙ rw (← e, ne-eqb o i n) (or-false (taken-before x a o))))
+              (marks o h g ∙ sym (any-more (λ b. eqb o (taken-row x b)) a ∙ rw (← e, ne-eqb o i n) (or-false (taken-before x a o))))
         ]
+
+    pub marks-kept : ((o : ℕ) → 128 ≤ o → o < 320 → eqb o (taken-row x a) ≡ false) → Marks x (a + 1) ts
+    unfolding taken-before
+    marks-kept f o h g =
+        marks o h g ∙ sym (any-more (λ b. eqb o (taken-row x b)) a ∙ rw (f o h g) (or-false (taken-before x a o)))
 
 pub due-most : (by : Bool) (p due : ℕ) → p ≤ 65535 → due ≤ 65536 → cond by (p + 1) due ≤ 65536
 due-most true p due h g = omega arith
@@ -99,9 +118,9 @@ pub reached-none : (x : List ℕ) (p : ℕ) → reached x 0 p ≡ ltb p 0
 unfolding reached
 reached-none x p = any-none _ ∙ sym (le-ltb p 0 (omega arith))
 
-pub marks-none : (x : List ℕ) → Marks x 0 (replicate 258 0)
+pub marks-none : (x : List ℕ) → Marks x 0 (replicate 384 0)
 unfolding taken-before
-marks-none x o h = rw (getD-replicate {A = ℕ} 258 o 0 0 (omega arith)) (sym (any-none _))
+marks-none x o h g = rw (getD-replicate {A = ℕ} 384 o 0 0 (omega arith)) (sym (any-none _))
 
 -- what the tests say of the first n actions
 module _ (x : List ℕ) (n : ℕ) (fit : any n (unfit x) ≡ false) where
@@ -116,6 +135,35 @@ module _ (x : List ℕ) (n : ℕ) (fit : any n (unfit x) ≡ false) where
       let (p, q) = neither (leb 64 (thread x a)) (leb 64 (given x a .number) || leb 64 (taken x a .number)) (parts a l .0) in
       let (r, s) = neither (leb 64 (given x a .number)) (leb 64 (taken x a .number)) q in
       (leb-false 64 (thread x a) p, leb-false 64 (given x a .number) r, leb-false 64 (taken x a .number) s)
+
+  -- an action that does not synchronize freely is not late, and takes none of the rows that are asked for
+  module _ (a : ℕ) (inside : a < n) where
+    pub given-between : freely x a ≡ true → (128 ≤ given-row x a) × (given-row x a < 320)
+    given-between f =
+        let class = given-class x a in
+        let number = small a inside .1 in
+        let later = ltb-false (given x a .class) 2 (sym (given-placed x a) ∙ unplaced x a f) in (omega arith, omega arith)
+
+    pub late-not : freely x a ≡ false → late x a ≡ false
+    unfolding late taken-before
+    late-not f = ⊎-elim (λ p. rw p) nothing (either (row x a .gives .placed) (eqb (given x a .class) 4) (rw f at (given-freely x a)))
+      where
+        nothing : eqb (given x a .class) 4 ≡ true → not (row x a .gives .placed) && taken-before x a (given-row x a) ≡ false
+        nothing e =
+            rw (any-never _ a (λ b l.
+            let class = eqb-true (given x a .class) 4 e in
+            let number = small a inside .1 in
+            let taker = small b (omega arith) .2 in
+            let other = taken-some x b in
+            ne-eqb (given-row x a) (taken-row x b) (λ q. omega arith)))
+            (and-false (not (row x a .gives .placed)))
+
+    pub taken-outside : freely x a ≡ false → (o : ℕ) → 128 ≤ o → o < 320 → eqb o (taken-row x a) ≡ false
+    taken-outside f o h g =
+        let number = small a inside .2 in
+        ⊎-elim (λ p. let class = ltb-true (taken x a .class) 2 p in ne-eqb o (taken-row x a) (λ q. omega arith))
+        (λ p. let class = eqb-true (taken x a .class) 5 p in ne-eqb o (taken-row x a) (λ q. omega arith))
+        (either (ltb (taken x a .class) 2) (eqb (taken x a .class) 5) (rw f at (taken-freely x a)))
 
   -- places rise
   pub place-rises : (a b : ℕ) → a < b → b < n → placed x a ≡ true → placed x b ≡ true → place x a < place x b

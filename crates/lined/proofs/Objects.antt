@@ -1,31 +1,31 @@
 -- What the table of kinds says of the objects that actions give and take, and that their rows tell them apart.
 use Prim.Native.Nat.{ℕ, _<_}
-use native.Mathlib.Decide.{decLt}
 use native.Mathlib.Omega.{arith}
 use mathlib.Core.Path.{_≡_, refl}
 use mathlib.Core.List.{List}
-use mathlib.Core.Bool.{Bool, true, false, not, _&&_, Bool·beq}
+use mathlib.Core.Bool.{Bool, true, false, not, cond, _&&_, _||_, Bool·beq}
 use lib.Dec.{eqb, ltb}
-use borrow.Author.Tests.{lt-ltb, le-ltb, eq-eqb, eqb-true, eqb-false, ltb-true, not-true}
+use borrow.Author.Tests.{eq-eqb, eqb-true, eqb-false, ltb-true, not-true}
+use Rattle.model.specs.declared.Objects.{Objects}
 use Rattle.model.specs.Search.{any}
 use Rattle.model.specs.Kinds.{kindRow}
-use Rattle.model.specs.Layout.{kind, row}
+use Rattle.model.specs.Layout.{thread, kind, target, row}
+use Rattle.model.specs.Relations.{number}
 use Rattle.model.proofs.Bools.{both, same-truth, same-bool}
 use Rattle.model.proofs.Synchronizes.{every-row}
-use Rattle.relations.specs.declared.Object.{Object}
 use Rattle.relations.specs.Objects.{given, taken}
-use Rattle.lined.specs.Line.{slot, given-row, taken-row}
+use Rattle.lined.specs.Line.{given-row, taken-row, placed, freely}
 
 module _ (x : List ℕ) (a : ℕ) where
-  given-class : given x a .class < 5
+  pub given-class : given x a .class < 5
   unfolding given any kindRow
   given-class = ltb-true _ 5 (every-row (λ k. ltb (k .gives .class) 5) refl (kind x a))
 
-  taken-class : taken x a .class < 6
+  pub taken-class : taken x a .class < 6
   unfolding taken any kindRow
   taken-class = ltb-true _ 6 (every-row (λ k. ltb (k .takes .class) 6) refl (kind x a))
 
-  taken-some : taken x a .class ≡ 4 → ⊥
+  pub taken-some : taken x a .class ≡ 4 → ⊥
   unfolding taken any kindRow
   taken-some = eqb-false _ 4 (not-true _ (every-row (λ k. not (eqb (k .takes .class) 4)) refl (kind x a)))
 
@@ -43,46 +43,48 @@ module _ (x : List ℕ) (a : ℕ) where
   unfolding given taken any kindRow
   own-class = not-true _ (every-row (λ k. not (eqb (k .gives .class) (k .takes .class))) refl (kind x a))
 
-slot-below : (o : Object) → o .class < 6 → o .number < 64 → slot o < 258
-unfolding slot
-slot-below o c n =
-    elim (decLt (o .class) 4) [
-      | yes h ↦ rw (lt-ltb (o .class) 4 h) (omega arith)
-      | no g ↦ rw (le-ltb (o .class) 4 (omega arith)) (omega arith)
-    ]
+  -- what gives or takes, and not by its place, is what synchronizes freely
+  pub given-freely : freely x a || (row x a .gives .placed || eqb (given x a .class) 4) ≡ true
+  unfolding given any kindRow
+  given-freely =
+      every-row (λ k. not (k .gives .placed || k .takes .placed) && k .sync || (k .gives .placed || eqb (k .gives .class) 4)) refl (kind x a)
 
--- what is given and what is taken: of one row where they are one object
-module _ (o p : Object) (given : o .class < 5) (taken : p .class < 6) (some : p .class ≡ 4 → ⊥) (m : o .number < 64) (n : p .number < 64) where
-  apart : slot o ≡ slot p → (o .class ≡ p .class) × (o .number ≡ p .number)
-  unfolding slot
-  apart e =
-      elim (decLt (o .class) 4) [
-        | yes h ↦
-            elim (decLt (p .class) 4) [
-              | yes k ↦ let q = rw (lt-ltb (o .class) 4 h, lt-ltb (p .class) 4 k) at e in (omega arith, omega arith)
-              | no k ↦ let q = rw (lt-ltb (o .class) 4 h, le-ltb (p .class) 4 (omega arith)) at e in (omega arith, omega arith)
-            ]
-        | no h ↦
-            elim (decLt (p .class) 4) [
-              | yes k ↦ let q = rw (le-ltb (o .class) 4 (omega arith), lt-ltb (p .class) 4 k) at e in (omega arith, omega arith)
-              | no k ↦ let q = rw (le-ltb (o .class) 4 (omega arith), le-ltb (p .class) 4 (omega arith)) at e in (omega arith, omega arith)
-            ]
-      ]
+  pub taken-freely : freely x a || (ltb (taken x a .class) 2 || eqb (taken x a .class) 5) ≡ true
+  unfolding taken any kindRow
+  taken-freely =
+      every-row (λ k. not (k .gives .placed || k .takes .placed) && k .sync || (ltb (k .takes .class) 2 || eqb (k .takes .class) 5)) refl (kind x a)
 
-  same-slot : eqb (slot o) (slot p) ≡ eqb (o .class) (p .class) && eqb (o .number) (p .number)
-  unfolding slot
-  same-slot =
-      same-truth _ _ (λ h. let (q, r) = apart (eqb-true _ _ h) in rw (eq-eqb _ _ q, eq-eqb _ _ r))
-      (λ h.
-      let (q, r) = both _ _ h in
-      eq-eqb (slot o) (slot p) (rw (eqb-true (o .class) (p .class) q, eqb-true (o .number) (p .number) r)))
+  -- a number is one of the two fields
+  numbered : thread x a < 64 → target x a < 64 → (o : Objects) → number o x a < 64
+  numbered h g o = go (o .own)
+    where
+      go : (t : Bool) → cond t (thread x a) (target x a) < 64
+      go true = h
+      go false = g
 
-module _ (x : List ℕ) (a : ℕ) (small : given x a .number < 64) where
-  pub given-below : given-row x a < 258
-  given-below = slot-below (given x a) (let h = given-class x a in omega arith) small
+  pub given-number : thread x a < 64 → target x a < 64 → given x a .number < 64
+  unfolding given
+  given-number h g = numbered h g (row x a .gives)
 
-  pub same-row : (b : ℕ) → taken x b .number < 64 → eqb (given-row x a) (taken-row x b) ≡ eqb (given x a .class) (taken x b .class) && eqb (given x a .number) (taken x b .number)
-  same-row b n = same-slot (given x a) (taken x b) (given-class x a) (taken-class x b) (taken-some x b) small n
+  pub taken-number : thread x a < 64 → target x a < 64 → taken x a .number < 64
+  unfolding taken
+  taken-number h g = numbered h g (row x a .takes)
 
-pub taken-below : (x : List ℕ) (a : ℕ) → taken x a .number < 64 → taken-row x a < 258
-taken-below x a small = slot-below (taken x a) (taken-class x a) small
+  pub given-below : given x a .number < 64 → given-row x a < 384
+  given-below h = let c = given-class in omega arith
+
+  pub taken-below : taken x a .number < 64 → taken-row x a < 384
+  taken-below h = let c = taken-class in omega arith
+
+-- what is given and what is taken are of one row where they are one object
+pub same-row :
+    (x : List ℕ) (a b : ℕ) → given x a .number < 64 → taken x b .number < 64 →
+    eqb (given-row x a) (taken-row x b) ≡ eqb (given x a .class) (taken x b .class) && eqb (given x a .number) (taken x b .number)
+same-row x a b m n =
+    same-truth _ _
+    (λ h.
+    let e = eqb-true (given-row x a) (taken-row x b) h in
+    rw (eq-eqb (given x a .class) (taken x b .class) (omega arith), eq-eqb (given x a .number) (taken x b .number) (omega arith)))
+    (λ h.
+    let (q, r) = both _ _ h in
+    eq-eqb (given-row x a) (taken-row x b) (omega (arith, eqb-true (given x a .class) (taken x b .class) q, eqb-true (given x a .number) (taken x b .number) r)))

@@ -60,15 +60,15 @@ module _ (x : List ℕ) where
       after c d = (false || eqb c 0 && noted x (thread x) s (thread x a) d) || eqb c 0 && noted x (taken-row x) s (given-row x a) d
 
       pub after-row :
-          {t g : ℕ} → t ≡ thread x a → t < 64 → g ≡ given-row x a → g < 258 → {later through us vs : List ℕ} →
-          later ≡ table 64 (noted x (thread x) s) → through ≡ table 258 (noted x (taken-row x) s) → us ≡ joined (replicate rowWords 0) 0 later t →
+          {t g : ℕ} → t ≡ thread x a → t < 64 → g ≡ given-row x a → g < 384 → {later through us vs : List ℕ} →
+          later ≡ table 64 (noted x (thread x) s) → through ≡ table 384 (noted x (taken-row x) s) → us ≡ joined (replicate rowWords 0) 0 later t →
           vs ≡ joined us 0 through g → vs ≡ table 1 after
       after-row {t} {g} q small r less i j u v =
           rw (v, u, i, j)
-          (ap (λ (ws : List ℕ). joined (joined ws 0 (table 64 (noted x (thread x) s)) t) 0 (table 258 (noted x (taken-row x) s)) g) (table-cleared 1)
-          ∙ ap (λ (ws : List ℕ). joined ws 0 (table 258 (noted x (taken-row x) s)) g)
+          (ap (λ (ws : List ℕ). joined (joined ws 0 (table 64 (noted x (thread x) s)) t) 0 (table 384 (noted x (taken-row x) s)) g) (table-cleared 1)
+          ∙ ap (λ (ws : List ℕ). joined ws 0 (table 384 (noted x (taken-row x) s)) g)
           (table-joined 1 (λ c d. false) 0 64 (noted x (thread x) s) t (omega arith) small)
-          ∙ table-joined 1 _ 0 258 (noted x (taken-row x) s) g (omega arith) less
+          ∙ table-joined 1 _ 0 384 (noted x (taken-row x) s) g (omega arith) less
           ∙ rw (q, r))
 
       row : (c d : ℕ) → (passed x s c d || eqb c a && after 0 d) ≡ passed x a c d
@@ -87,10 +87,13 @@ module _ (x : List ℕ) where
 
       -- and a with it
       abbrev from : ℕ → ℕ → Bool
-      from c d = after c d || eqb c 0 && eqb d a
+      from c d = after c d || eqb c 0 && (false || true && eqb d a)
 
-      pub from-row : {us ws : List ℕ} → us ≡ table 1 after → ws ≡ marked us 0 a → ws ≡ table 1 from
-      from-row i j = rw (j, i) (table-marked 1 after 0 a)
+      pub from-row : {us vs ws : List ℕ} → us ≡ table 1 after → vs ≡ marked (replicate rowWords 0) 0 a → ws ≡ joined us 0 vs 0 → ws ≡ table 1 from
+      from-row {us} {vs} i h j =
+          let single : vs ≡ table 1 (λ c d. false || eqb c 0 && eqb d a) =
+          h ∙ ap (λ (ws : List ℕ). marked ws 0 a) (table-cleared 1) ∙ table-marked 1 (λ c d. false) 0 a in
+          rw (j, i, single) (table-joined 1 after 0 1 (λ c d. false || eqb c 0 && eqb d a) 0 (omega arith) (omega arith))
 
       -- a is noted in the row of its number by f, of m rows
       module _ (f : ℕ → ℕ) (m : ℕ) {o : ℕ} (own : o ≡ f a) (inner : o < m) where

@@ -3,18 +3,17 @@ use Prim.Native.Nat.{ℕ, _+_, _*_}
 use mathlib.Core.List.{List}
 use mathlib.Core.Bool.{Bool, not, cond, _&&_, _||_}
 use lib.ListN.{length}
-use lib.Dec.{eqb, ltb, leb}
+use lib.Dec.{eqb, leb}
 use Rattle.model.specs.Limits.{maxActions, partWords}
-use Rattle.model.specs.Kinds.{nothing-given}
 use Rattle.model.specs.Search.{any}
-use Rattle.model.specs.Layout.{size, thread, place, row}
+use Rattle.model.specs.Layout.{size, thread, place, row, sync}
 use Rattle.model.specs.WorkArea.{part}
 use Rattle.relations.specs.declared.Object.{Object}
 use Rattle.relations.specs.Objects.{given, taken}
 
--- the row of an object: those of a class, with the numbers below 64, after one another; nothing given is 256, nothing taken 257
-unfoldable pub slot : Object → ℕ
-slot o = cond (ltb (o .class) nothing-given) (64 * o .class + o .number) (252 + o .class)
+-- the row of an object: those of a class, with the numbers below 64, after one another
+abbrev pub slot : Object → ℕ
+slot o = 64 * o .class + o .number
 
 abbrev pub given-row : List ℕ → ℕ → ℕ
 given-row x a = slot (given x a)
@@ -37,6 +36,10 @@ reached x a p = any a (λ b. placed x b && leb p (place x b))
 -- a has no rows, or its place does not rise
 unfoldable pub unfit : List ℕ → ℕ → Bool
 unfit x a = broad x a || placed x a && reached x a (place x a)
+
+-- a synchronizes, and not by its place
+abbrev pub freely : List ℕ → ℕ → Bool
+freely x a = not (placed x a) && sync x a
 
 -- an action before a takes the object of row o
 unfoldable pub taken-before : List ℕ → ℕ → ℕ → Bool

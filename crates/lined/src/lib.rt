@@ -2,6 +2,7 @@
 use fields::kind;
 use fields::place;
 use fields::size;
+use fields::target;
 use fields::thread;
 use model::MAX_ACTIONS;
 use model::PART_WORDS;
@@ -10,22 +11,22 @@ use relations::Object;
 use relations::given;
 use relations::taken;
 use table::row_of;
+use table::sync;
 ghost use mathlib.Core.Path.{_≡_};
-ghost use mathlib.Core.Bool.{false, not, cond, _&&_};
+ghost use mathlib.Core.Bool.{false, not, cond};
 ghost use Prim.Native.Nat.{_<_, _≤_};
-ghost use lib.Dec.{eqb};
-ghost use lib.ListN.{length, getD};
-ghost use Rattle.model.specs.Limits.{maxActions, partWords};
-ghost use Rattle.model.specs.Layout.{size, row};
+ghost use lib.ListN.{length, replicate};
+ghost use Rattle.model.specs.Limits.{maxActions, rowWords, partWords};
+ghost use Rattle.model.specs.Layout.{size};
 ghost use Rattle.model.specs.Search.{any};
-ghost use Rattle.rows.specs.Part.{table};
-ghost use Rattle.lined.specs.Line.{slot, given-row, broad, placed, unfit, late, lined, lined-part};
+ghost use Rattle.rows.specs.Part.{marked, table};
+ghost use Rattle.lined.specs.Line.{slot, broad, placed, unfit, freely, late, lined, lined-part};
 ghost use Rattle.lined.specs.Passing.{passed};
 
-// Rows of the sweep: threads and the numbers of objects are below NUMBERS, and the four classes of objects come before the two of nothing.
+// Threads and the numbers of objects below this have rows, and objects have them class by class.
 const NUMBERS: u8 = 64;
 
-const OBJECTS: usize = 258;
+const OBJECTS: usize = 384;
 
 // The words of a row for each thread, and of one for each object.
 const THREAD_ROWS: usize = 64 * ROW_WORDS;
@@ -36,19 +37,18 @@ const OBJECT_ROWS: usize = OBJECTS * ROW_WORDS;
 fn slot(o: Object) -> u16
     ensures { λ r. ⌜ r ≡ slot o ⌝ }
 {
-    if o.class < model::NOTHING_GIVEN {
-        64 * (o.class as u16) + o.number as u16
-    } else {
-        252 + o.class as u16
-    }
+    64 * (o.class as u16) + o.number as u16
 }
 
-// Whether a has no row among the threads, or an object of a none among the objects.
+// Whether a has no row among the threads, or an object of a none among the objects. The number of an object is one of the two fields.
 fn broad(x: &[u8], a: u16) -> bool
     ensures { λ r. ⌜ r ≡ broad (now (x .entry)) a ⌝ }
 {
     if thread(x, a) >= NUMBERS {
         return true;
+    }
+    if target(x, a) < NUMBERS {
+        return false;
     }
     if given(x, a).number >= NUMBERS {
         return true;
@@ -90,16 +90,14 @@ fn rising(x: &[u8], n: u16) -> bool
     true
 }
 
-// Whether a gives, and not by its place, an object that is marked.
-fn met(x: &[u8], a: u16, seen: &[u8; OBJECTS]) -> bool
-    requires { ⌜ given-row (now x) a < 258 ⌝ }
-    ensures { λ r. ⌜ r ≡ not (row (now (x .entry)) a .gives .placed) && eqb (getD (now (seen .entry)) (given-row (now (x .entry)) a) 0) 1 ⌝ }
+// Whether a synchronizes, and not by its place.
+fn freely(x: &[u8], a: u16) -> bool
+    ensures { λ r. ⌜ r ≡ freely (now (x .entry)) a ⌝ }
 {
-    if row_of(kind(x, a)).gives.placed {
+    if placed(x, a) {
         return false;
     }
-    let o = slot(given(x, a)) as usize;
-    seen[o] == 1
+    sync(x, a)
 }
 
 // Whether no start stands after the beginning of its thread, and no end after a join of it.
@@ -109,13 +107,30 @@ fn timely(x: &[u8], n: u16) -> bool
 {
     let mut seen = [0u8; OBJECTS];
     for a in 0..n {
-        if met(x, a, &seen) {
-            return false;
+        if freely(x, a) {
+            let o = slot(given(x, a)) as usize;
+            if seen[o] == 1 {
+                return false;
+            }
+            let i = slot(taken(x, a)) as usize;
+            seen[i] = 1;
         }
-        let i = slot(taken(x, a)) as usize;
-        seen[i] = 1;
     }
     true
+}
+
+// A row with the bit for a alone.
+fn single(a: u16) -> [u64; ROW_WORDS]
+    requires { ⌜ a < maxActions ⌝ }
+    ensures { λ r. ⌜ r ≡ marked (replicate rowWords 0) 0 a ⌝ }
+{
+    let mut r = [0u64; ROW_WORDS];
+    if a < 64 {
+        r[0] = 1 << a;
+    } else {
+        r[1] = 1 << (a - 64);
+    }
+    r
 }
 
 // Row a gets what is noted of the actions of its thread, and of those that take its object: all of them are later, and passed. Then a is noted, with its row.
@@ -138,7 +153,7 @@ fn sweep(x: &[u8], part: &mut [u64], n: u16)
         rows::join(&mut own, 0, &later, t);
         rows::join(&mut own, 0, &through, slot(given(x, a)));
         rows::join(part, a, &own, 0);
-        rows::set(&mut own, 0, a);
+        rows::join(&mut own, 0, &single(a), 0);
         rows::join(&mut later, t, &own, 0);
         rows::join(&mut through, slot(taken(x, a)), &own, 0);
     }

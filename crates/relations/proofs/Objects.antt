@@ -2,7 +2,7 @@
 use Prim.Native.Nat.{ℕ}
 use mathlib.Core.Path.{_≡_, refl, sym, _∙_}
 use mathlib.Core.List.{List}
-use mathlib.Core.Bool.{Bool, true, false, not, _&&_, _||_}
+use mathlib.Core.Bool.{true, false, not, _&&_, _||_}
 use lib.Dec.{eqb, ltb}
 use borrow.Author.Tests.{eqb-true, not-true}
 use Rattle.model.specs.Search.{any}

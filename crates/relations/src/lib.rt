@@ -4,7 +4,8 @@ use fields::place;
 use fields::target;
 use fields::thread;
 use model::Objects;
-use table::row_of;
+use table::gives;
+use table::takes;
 ghost use mathlib.Core.Path.{_≡_};
 ghost use Rattle.model.specs.Relations.{po, number, sw};
 ghost use Rattle.relations.specs.Objects.{given, taken, offered, accepts, key};
@@ -35,7 +36,7 @@ fn number(o: Objects, x: &[u8], a: u16) -> u8
 pub fn given(x: &[u8], a: u16) -> Object
     ensures { λ r. ⌜ r ≡ given (now (x .entry)) a ⌝ }
 {
-    let o = row_of(kind(x, a)).gives;
+    let o = gives(kind(x, a));
     Object {
         class: o.class,
         number: number(o, x, a),
@@ -45,7 +46,7 @@ pub fn given(x: &[u8], a: u16) -> Object
 pub fn taken(x: &[u8], a: u16) -> Object
     ensures { λ r. ⌜ r ≡ taken (now (x .entry)) a ⌝ }
 {
-    let o = row_of(kind(x, a)).takes;
+    let o = takes(kind(x, a));
     Object {
         class: o.class,
         number: number(o, x, a),
@@ -62,7 +63,7 @@ pub fn key(o: Object) -> u16
 pub fn offered(x: &[u8], a: u16) -> Offer
     ensures { λ r. ⌜ r ≡ offered (now (x .entry)) a ⌝ }
 {
-    let o = row_of(kind(x, a)).gives;
+    let o = gives(kind(x, a));
     Offer {
         class: o.class,
         number: number(o, x, a),

@@ -209,3 +209,93 @@ pub fn write(x: &[u8], a: u16) -> bool
 {
     row_of(kind(x, a)).write
 }
+
+// What the kinds give and take, as columns by themselves: they are little enough to be laid out in memory at each call, and no way is taken by the kind, where kinds follow one another as they please.
+const GIVEN_CLASSES: [u8; 12] = [
+    KINDS[0].gives.class,
+    KINDS[1].gives.class,
+    KINDS[2].gives.class,
+    KINDS[3].gives.class,
+    KINDS[4].gives.class,
+    KINDS[5].gives.class,
+    KINDS[6].gives.class,
+    KINDS[7].gives.class,
+    KINDS[8].gives.class,
+    KINDS[9].gives.class,
+    KINDS[10].gives.class,
+    KINDS[11].gives.class,
+];
+
+const GIVEN_OWN: [bool; 12] = [
+    KINDS[0].gives.own,
+    KINDS[1].gives.own,
+    KINDS[2].gives.own,
+    KINDS[3].gives.own,
+    KINDS[4].gives.own,
+    KINDS[5].gives.own,
+    KINDS[6].gives.own,
+    KINDS[7].gives.own,
+    KINDS[8].gives.own,
+    KINDS[9].gives.own,
+    KINDS[10].gives.own,
+    KINDS[11].gives.own,
+];
+
+const TAKEN_CLASSES: [u8; 12] = [
+    KINDS[0].takes.class,
+    KINDS[1].takes.class,
+    KINDS[2].takes.class,
+    KINDS[3].takes.class,
+    KINDS[4].takes.class,
+    KINDS[5].takes.class,
+    KINDS[6].takes.class,
+    KINDS[7].takes.class,
+    KINDS[8].takes.class,
+    KINDS[9].takes.class,
+    KINDS[10].takes.class,
+    KINDS[11].takes.class,
+];
+
+const TAKEN_OWN: [bool; 12] = [
+    KINDS[0].takes.own,
+    KINDS[1].takes.own,
+    KINDS[2].takes.own,
+    KINDS[3].takes.own,
+    KINDS[4].takes.own,
+    KINDS[5].takes.own,
+    KINDS[6].takes.own,
+    KINDS[7].takes.own,
+    KINDS[8].takes.own,
+    KINDS[9].takes.own,
+    KINDS[10].takes.own,
+    KINDS[11].takes.own,
+];
+
+// What kind k gives, and what it takes.
+pub fn gives(k: u8) -> Objects
+    ensures { λ r. ⌜ r ≡ kindRow k .gives ⌝ }
+{
+    let i = k as usize;
+    if i >= 12 {
+        return GIVES_NONE;
+    }
+    Objects {
+        class: GIVEN_CLASSES[i],
+        own: GIVEN_OWN[i],
+        placed: row_of(k).gives.placed,
+    }
+}
+
+pub fn takes(k: u8) -> Objects
+    ensures { λ r. ⌜ r ≡ kindRow k .takes ⌝ }
+{
+    let i = k as usize;
+    if i >= 12 {
+        return TAKES_NONE;
+    }
+    Objects {
+        class: TAKEN_CLASSES[i],
+        own: TAKEN_OWN[i],
+        placed: row_of(k).takes.placed,
+    }
+}

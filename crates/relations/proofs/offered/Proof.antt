@@ -9,4 +9,4 @@ unfolding offered
 offered-spec =
     tie.close
     (tie.spec (λ c κs. search needs) (λ c κs. search needs) (λ c κs. search needs) (λ c κs. search needs)
-    (λ c. rw (c .place .ensures, c .before .number .ensures, c .before .before .before .row-of .ensures, c .before .before .before .before .kind .ensures)))
+    (λ c. rw (c .place .ensures, c .before .number .ensures, c .before .before .gives .ensures, c .before .before .before .kind .ensures)))

@@ -9,4 +9,4 @@ unfolding taken
 taken-spec =
     tie.close
     (tie.spec (λ c κs. search needs) (λ c κs. search needs) (λ c κs. search needs)
-    (λ c. rw (c .number .ensures, c .before .before .row-of .ensures, c .before .before .before .kind .ensures)))
+    (λ c. rw (c .number .ensures, c .before .takes .ensures, c .before .before .kind .ensures)))

@@ -1,7 +1,7 @@
 -- `table::row_of` meets its contract: each arm is a row of the definitions' table, and past its end stands row 0.
 use Prim.Native.Nat.{ℕ, zero, suc, _≤_}
 use native.Mathlib.Omega.{arith}
-use mathlib.Core.Path.{_≡_, refl, sym}
+use mathlib.Core.Path.{_≡_, sym}
 use lib.ListN.{List·getD-eq-default}
 use borrow.Author.Needs.{needs}
 use Rattle.model.specs.Kinds.{kindRow, kinds, noKind}

@@ -21,7 +21,7 @@ use Rattle.model.proofs.Answers.{then-both, then-next, then-ends}
 use Rattle.model.proofs.Serial.{serial-order}
 use Rattle.model.proofs.Serial.Steps.{length-serial}
 use Rattle.model.proofs.Serial.Places.{Placed}
-use Rattle.jmm.proofs.Passed.{order-passed}
+use Rattle.jmm.proofs.Accepted.{order-passed}
 use Rattle.laws.proofs.Consistent.Fields.{checked-passed}
 use Rattle.demands.specs.Demands.{E, Passes17, Passes18, RaceFree, Sequence, Order-hands-out, Order-answers, Order-promise, Some-sequence}
 use Rattle.demands.proofs.Checked.{at, checked}

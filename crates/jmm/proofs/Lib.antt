@@ -1,5 +1,5 @@
 -- Laws between the questions and the steps that answer them.
-pub mod Passed
+pub mod Accepted
 pub mod Laid
 pub mod Shown
 pub mod Clean

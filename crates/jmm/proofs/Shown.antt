@@ -1,16 +1,16 @@
 -- The words of a filled part show happens-before, and what the layers below promise of them is what the questions ask.
 use Prim.Native.Nat.{ℕ, _+_, _*_, _-_, _<_, _≤_}
 use native.Mathlib.Omega.{arith}
-use mathlib.Core.Path.{_≡_, refl, sym, ap, ap₂, _∙_}
+use mathlib.Core.Path.{_≡_, refl, sym, ap₂, _∙_}
 use mathlib.Core.List.{List}
 use mathlib.Core.Bool.{Bool}
 use lib.ListN.{length, take, drop}
 use Rattle.model.specs.declared.Answer.{Answer}
 use Rattle.model.specs.Limits.{maxActions, partWords}
-use Rattle.model.specs.Layout.{K, section, size}
+use Rattle.model.specs.Layout.{section, size}
 use Rattle.model.specs.Relations.{hb}
-use Rattle.model.specs.WorkArea.{shown, part, filled}
-use Rattle.model.specs.Rules.{well-formed, racing}
+use Rattle.model.specs.WorkArea.{shown, filled}
+use Rattle.model.specs.Rules.{well-formed}
 use Rattle.model.specs.Justified.{committing}
 use Rattle.model.proofs.Words.{shown-part}
 use Rattle.record.specs.declared.Span.{Span}

@@ -5,20 +5,12 @@ use mathlib.Core.Path.{_≡_, refl, sym}
 use mathlib.Core.List.{List}
 use mathlib.Core.Bool.{Bool, true, false, not, cond, _&&_, _||_, or-false, and-comm, and-assoc}
 use lib.Dec.{eqb, ltb, leb}
-use borrow.Author.Tests.{lt-leb, lt-ltb, le-ltb, ltb-true, ltb-false, leb-true, leb-false}
+use borrow.Author.Tests.{lt-leb, ltb-true, ltb-false, leb-true, leb-false}
 use Rattle.model.specs.Search.{any, none}
 use Rattle.model.specs.Layout.{size, ident, kind, commit, seen, read}
 use Rattle.model.specs.Rules.{seen-hb}
 use Rattle.model.specs.Justified.{C, C#, twin-of, new, broken26, broken27, outside, broken29}
 use Rattle.justify.specs.Found.{lower, least-commit, stage, stage-of, fresh}
-
--- a test of the code that is not `≤`
-pub not-leb : (i s : ℕ) → ltb i s ≡ not (leb s i)
-not-leb i s = go (leb s i) refl
-  where
-    go : (b : Bool) → leb s i ≡ b → ltb i s ≡ not b
-    go true e = le-ltb i s (leb-true s i e)
-    go false e = lt-ltb i s (leb-false s i e)
 
 -- the smaller of two numbers is at most i when one of them is
 smaller : (b : Bool) (c s i : ℕ) → leb (cond (b && ltb c s) c s) i ≡ leb s i || b && leb c i

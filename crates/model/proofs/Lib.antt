@@ -1,5 +1,6 @@
 pub mod Bools
 pub mod Search
+pub mod Scan
 pub mod Ways
 pub mod Best
 pub mod Words

@@ -3,7 +3,7 @@ use Prim.Native.Nat.{ℕ, _<_, _≤_}
 use mathlib.Core.Path.{_≡_, refl, sym, _∙_}
 use mathlib.Core.Bool.{Bool, true, false, not, _&&_, _||_, or-false}
 use lib.Dec.{eqb, ltb, leb}
-use borrow.Author.Tests.{eq-eqb, ne-eqb, lt-ltb, le-ltb, le-leb, lt-leb, ltb-true, ltb-false, not-true, not-false}
+use borrow.Author.Tests.{eq-eqb, ne-eqb, lt-ltb, le-ltb, leb-true, leb-false, not-true, not-false}
 
 -- a test that held, or failed
 pub on : {p : Bool} → p ≡ true → true ≡ p
@@ -29,12 +29,20 @@ module _ {f p : Bool} (e : f ≡ p) where
 pub ne : {m n : ℕ} → (m ≡ n → ⊥) → false ≡ eqb m n
 ne {m} {n} h = sym (ne-eqb m n h)
 
-pub leb-not : (k n : ℕ) → leb k n ≡ not (ltb n k)
-leb-not k n = go (ltb n k) refl
+-- each comparison is that the other, turned round, fails
+pub not-leb : (n k : ℕ) → ltb n k ≡ not (leb k n)
+not-leb n k = go (leb k n) refl
   where
-    go : (b : Bool) → ltb n k ≡ b → leb k n ≡ not b
-    go true h = lt-leb k n (ltb-true n k h)
-    go false h = le-leb k n (ltb-false n k h)
+    go : (b : Bool) → leb k n ≡ b → ltb n k ≡ not b
+    go true h = le-ltb n k (leb-true k n h)
+    go false h = lt-ltb n k (leb-false k n h)
+
+pub leb-not : (k n : ℕ) → leb k n ≡ not (ltb n k)
+leb-not k n = go (leb k n) (not-leb n k)
+  where
+    go : (b : Bool) → ltb n k ≡ not b → b ≡ not (ltb n k)
+    go true h = rw h
+    go false h = rw h
 
 module _ {m : ℕ} (k : ℕ) (e : m ≡ k) where
   pub unequal : {n : ℕ} → (m ≡ n → ⊥) → false ≡ eqb k n

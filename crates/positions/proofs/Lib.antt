@@ -2,6 +2,5 @@ pub mod Sets
 pub mod Listing
 pub mod Tables
 pub mod Slots
-pub mod Passed
 pub mod Limited
 pub mod Unique

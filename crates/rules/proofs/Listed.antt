@@ -8,10 +8,10 @@ use Rattle.model.specs.Search.{first}
 use Rattle.model.proofs.Search.{any-less, first-same}
 use Rattle.positions.specs.Lists.{pick, Listed}
 use Rattle.positions.proofs.Listing.{pick-listed, pick-at, pick-none}
-use Rattle.positions.proofs.Passed.{Passed}
+use Rattle.model.proofs.Scan.{Scanned}
 
 -- the test p admits only positions that are listed, and none of the first j entries passes it; f is what the code got for the test of entry j
-module _ (q p : ℕ → Bool) (inside : (b : ℕ) → q b ≡ false → p b ≡ false) {l : List ℕ} {n m : ℕ} (h : Listed q n l m) {j : ℕ} (passed : Passed (λ i. p (getD l i 0)) m j) where
+module _ (q p : ℕ → Bool) (inside : (b : ℕ) → q b ≡ false → p b ≡ false) {l : List ℕ} {n m : ℕ} (h : Listed q n l m) {j : ℕ} (passed : Scanned (λ i. p (getD l i 0)) m j) where
   picked : pick l m n p ≡ first n p
   picked = pick-listed q p l h ∙ first-same (λ b. q b && p b) p n (λ b u. go b (q b) refl)
     where

@@ -18,7 +18,7 @@ use Rattle.model.proofs.Search.{any-never, first-is, first-any, first-least, co
 use Rattle.model.proofs.Answers.{rule₂-at}
 use Rattle.positions.specs.Lists.{Listed}
 use Rattle.positions.proofs.Listing.{count-lt, listed-at, any-upto}
-use Rattle.positions.proofs.Passed.{Passed}
+use Rattle.model.proofs.Scan.{Scanned}
 use Rattle.rules.specs.Searches.{later-race, plains-upto}
 
 module _ (h : ℕ → ℕ → Bool) (x : List ℕ) where
@@ -48,7 +48,7 @@ module _ (h : ℕ → ℕ → Bool) (x : List ℕ) where
 
     module _ {l : List ℕ} {m from : ℕ} (u : a < size x) (e : plain x a ≡ true) (listed : Listed (plain x) (size x) l m) (f : from ≡ plains-upto x a) where
       -- none in the list up to a comes after it
-      pub upto-passed : Passed (λ i. later-race h x a (getD l i 0)) m from
+      pub upto-passed : Scanned (λ i. later-race h x a (getD l i 0)) m from
       unfolding later-race
       upto-passed = record {
         within = omega (arith, f, rw e at (count-more (plain x) a), listed .all, count-lt (plain x) (size x) a u e);

@@ -8,7 +8,7 @@ use Rattle.model.specs.declared.Answer.{Answer}
 use Rattle.record.proofs.Parts.{span-section, span-low, span-high}
 use Rattle.model.proofs.Answers.{ends, goes-on}
 use Rattle.jmm.proofs.Left.{list-kept, list-serial, untouched, left-filled}
-use Rattle.jmm.proofs.Passed.{order-passed, list-room, accepted}
+use Rattle.jmm.proofs.Accepted.{order-passed, list-room, accepted}
 use Rattle.jmm.proofs.Shown.{filled-parts}
 use Rattle.jmm.proofs.order.Statement.{statement}
 use Rattle.jmm.proofs.order.Tie as tie

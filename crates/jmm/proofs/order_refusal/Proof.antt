@@ -8,7 +8,6 @@ use borrow.Author.Needs.{needs}
 use Rattle.model.specs.Questions.{order-refusal, race-refusal}
 use Rattle.model.specs.Refused.{refusal}
 use Rattle.model.specs.Layout.{section, size}
-use Rattle.model.specs.Limits.{partWords}
 use Rattle.model.proofs.Answers.{ends, goes-on}
 use Rattle.record.proofs.Parts.{span-low, span-high, span-section}
 use Rattle.jmm.proofs.order_refusal.Statement.{statement}

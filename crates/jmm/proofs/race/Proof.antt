@@ -5,7 +5,7 @@ use borrow.Author.Needs.{needs}
 use Rattle.model.specs.Questions.{race, race-words, race-refusal}
 use Rattle.model.specs.declared.Answer.{Answer}
 use Rattle.jmm.proofs.Shown.{filled-parts}
-use Rattle.jmm.proofs.Passed.{accepted}
+use Rattle.jmm.proofs.Accepted.{accepted}
 use Rattle.model.proofs.Answers.{ends, goes-on}
 use Rattle.jmm.proofs.Left.{untouched, left-filled}
 use Rattle.jmm.proofs.race.Statement.{statement}

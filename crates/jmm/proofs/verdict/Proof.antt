@@ -6,7 +6,7 @@ use Rattle.model.specs.Questions.{verdict, verdict-words, verdict-refusal}
 use Rattle.model.specs.declared.Answer.{Answer}
 use Rattle.jmm.proofs.Shown.{filled-parts}
 use Rattle.record.proofs.Unrefused.{unrefused}
-use Rattle.jmm.proofs.Passed.{accepted}
+use Rattle.jmm.proofs.Accepted.{accepted}
 use Rattle.model.proofs.Answers.{ends, goes-on}
 use Rattle.jmm.proofs.Left.{untouched, left-filled}
 use Rattle.jmm.proofs.verdict.Statement.{statement}

@@ -2,7 +2,7 @@
 use Prim.Native.Nat.{_-_}
 use borrow.Author.Needs.{needs}
 use borrow.Author.Tests.{le-leb, lt-leb}
-use Rattle.justify.proofs.Stage.{not-leb}
+use Rattle.model.proofs.Ways.{not-leb}
 use Rattle.justify.proofs.found.fresh.Statement.{statement}
 use Rattle.justify.proofs.found.fresh.Tie as tie
 

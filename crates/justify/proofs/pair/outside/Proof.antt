@@ -5,7 +5,8 @@ use borrow.Author.Needs.{needs}
 use borrow.Author.Tests.{eq-eqb, ne-eqb}
 use Rattle.model.specs.Search.{none}
 use Rattle.model.specs.Justified.{outside}
-use Rattle.justify.proofs.Stage.{not-leb, outside-stage}
+use Rattle.model.proofs.Ways.{not-leb}
+use Rattle.justify.proofs.Stage.{outside-stage}
 use Rattle.justify.proofs.pair.outside.Statement.{statement}
 use Rattle.justify.proofs.pair.outside.Tie as tie
 

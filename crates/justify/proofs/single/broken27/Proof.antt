@@ -8,7 +8,8 @@ use borrow.Author.Tests.{le-leb, lt-leb}
 use Rattle.model.specs.Search.{none}
 use Rattle.model.specs.Justified.{broken27}
 use Rattle.justify.proofs.Least.{twin-found}
-use Rattle.justify.proofs.Stage.{by-stage27, not-leb}
+use Rattle.model.proofs.Ways.{not-leb}
+use Rattle.justify.proofs.Stage.{by-stage27}
 use Rattle.justify.proofs.single.broken27.Statement.{statement}
 use Rattle.justify.proofs.single.broken27.Tie as tie
 

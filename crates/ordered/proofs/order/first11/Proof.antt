@@ -3,12 +3,12 @@ use Prim.Native.Nat.{_-_}
 use native.Mathlib.Omega.{arith}
 use borrow.Author.Needs.{needs}
 use Rattle.model.specs.Rules.{broken11}
-use Rattle.positions.proofs.Passed.{Passed, passed-none, passed-more, passed-here, passed-all}
+use Rattle.model.proofs.Scan.{Scanned, scanned-none, scanned-more, scanned-here, scanned-all}
 use Rattle.ordered.proofs.order.first11.Statement.{statement}
 use Rattle.ordered.proofs.order.first11.Tie as tie
 
 abbrev Inv-loop : tie.InvT-loop
-Inv-loop x n total places a₀ a = Passed (broken11 x) n a
+Inv-loop x n total places a₀ a = Scanned (broken11 x) n a
 
 abbrev μ-loop : tie.MeasureT-loop
 μ-loop x n total places a₀ a = n - a
@@ -27,10 +27,10 @@ first11-spec =
     (λ c κs. search needs)
     (λ c κs. search needs)
     (λ c κs. search needs)
-    (λ c. passed-none _ _)
+    (λ c. scanned-none _ _)
     broken11-requires
-    (λ c. passed-here (c .before .before .before .before .loop .inv) (c .before .before .before .before .before .before .before .size .ensures) (omega arith) (c .before .broken11 .ensures) (c .if1 .taken))
+    (λ c. scanned-here (c .before .before .before .before .loop .inv) (c .before .before .before .before .before .before .before .size .ensures) (omega arith) (c .before .broken11 .ensures) (c .if1 .taken))
     (λ c. search needs)
     (λ c. search needs)
-    (λ c. passed-more (c .before .before .before .before .loop .inv) (omega arith) (c .before .broken11 .ensures) (c .if1 .left))
-    (λ c. passed-all (c .before .loop .inv) (c .before .before .before .before .size .ensures) (omega arith)))
+    (λ c. scanned-more (c .before .before .before .before .loop .inv) (omega arith) (c .before .broken11 .ensures) (c .if1 .left))
+    (λ c. scanned-all (c .before .loop .inv) (c .before .before .before .before .size .ensures) (omega arith)))

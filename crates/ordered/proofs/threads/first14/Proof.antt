@@ -6,12 +6,12 @@ use Rattle.model.specs.Rules.{broken14}
 use Rattle.positions.specs.Lists.{lasts}
 use Rattle.positions.proofs.Sets.{are-lasts}
 use Rattle.positions.proofs.Listing.{is-listed}
-use Rattle.positions.proofs.Passed.{Passed, passed-none, passed-more, passed-here, passed-all}
+use Rattle.model.proofs.Scan.{Scanned, scanned-none, scanned-more, scanned-here, scanned-all}
 use Rattle.ordered.proofs.threads.first14.Statement.{statement}
 use Rattle.ordered.proofs.threads.first14.Tie as tie
 
 abbrev Inv-loop : tie.InvT-loop
-Inv-loop x n first last start list count a₀ a = Passed (broken14 x) n a
+Inv-loop x n first last start list count a₀ a = Scanned (broken14 x) n a
 
 abbrev μ-loop : tie.MeasureT-loop
 μ-loop x n first last start list count a₀ a = n - a
@@ -34,10 +34,10 @@ first14-spec =
     (λ c κs. search needs)
     (λ c κs. search needs)
     (λ c κs. search needs)
-    (λ c. passed-none _ _)
+    (λ c. scanned-none _ _)
     broken14-requires
-    (λ c. passed-here (c .before .before .before .before .before .before .before .before .loop .inv) (c .before .before .before .before .before .before .before .before .before .before .before .before .before .size .ensures) (omega arith) (c .before .broken14 .ensures) (c .if1 .taken))
+    (λ c. scanned-here (c .before .before .before .before .before .before .before .before .loop .inv) (c .before .before .before .before .before .before .before .before .before .before .before .before .before .size .ensures) (omega arith) (c .before .broken14 .ensures) (c .if1 .taken))
     (λ c. search needs)
     (λ c. search needs)
-    (λ c. passed-more (c .before .before .before .before .before .before .before .before .loop .inv) (omega arith) (c .before .broken14 .ensures) (c .if1 .left))
-    (λ c. passed-all (c .before .loop .inv) (c .before .before .before .before .before .before .size .ensures) (omega arith)))
+    (λ c. scanned-more (c .before .before .before .before .before .before .before .before .loop .inv) (omega arith) (c .before .broken14 .ensures) (c .if1 .left))
+    (λ c. scanned-all (c .before .loop .inv) (c .before .before .before .before .before .before .size .ensures) (omega arith)))

@@ -4,12 +4,12 @@ use native.Mathlib.Omega.{arith}
 use borrow.Author.Needs.{needs}
 use Rattle.model.specs.WorkArea.{shown}
 use Rattle.model.specs.Rules.{broken18}
-use Rattle.positions.proofs.Passed.{Passed, passed-none, passed-more, passed-here, passed-all}
+use Rattle.model.proofs.Scan.{Scanned, scanned-none, scanned-more, scanned-here, scanned-all}
 use Rattle.rules.proofs.consistency.first18.Statement.{statement}
 use Rattle.rules.proofs.consistency.first18.Tie as tie
 
 abbrev Inv-loop : tie.InvT-loop
-Inv-loop x part source list count n a₀ a = Passed (broken18 (shown part) x) n a
+Inv-loop x part source list count n a₀ a = Scanned (broken18 (shown part) x) n a
 
 abbrev μ-loop : tie.MeasureT-loop
 μ-loop x part source list count n a₀ a = n - a
@@ -21,10 +21,10 @@ first18-spec =
     Inv-loop
     μ-loop
     (λ c κs. search needs)
-    (λ c. passed-none _ _)
+    (λ c. scanned-none _ _)
     (λ c κs. (omega (arith, c .before .before .size .ensures), (c .before .before .before .before .before .pre .0, c .before .before .before .before .before .pre .1)))
-    (λ c. passed-here (c .before .before .before .loop .inv) (c .before .before .before .before .size .ensures) (omega arith) (c .before .broken18 .ensures) (c .if1 .taken))
+    (λ c. scanned-here (c .before .before .before .loop .inv) (c .before .before .before .before .size .ensures) (omega arith) (c .before .broken18 .ensures) (c .if1 .taken))
     (λ c. search needs)
     (λ c. search needs)
-    (λ c. passed-more (c .before .before .before .loop .inv) (omega arith) (c .before .broken18 .ensures) (c .if1 .left))
-    (λ c. passed-all (c .before .loop .inv) (c .before .before .size .ensures) (omega arith)))
+    (λ c. scanned-more (c .before .before .before .loop .inv) (omega arith) (c .before .broken18 .ensures) (c .if1 .left))
+    (λ c. scanned-all (c .before .loop .inv) (c .before .before .size .ensures) (omega arith)))

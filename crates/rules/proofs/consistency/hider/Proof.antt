@@ -6,7 +6,7 @@ use lib.ListN.{getD}
 use borrow.Author.Needs.{needs}
 use Rattle.model.specs.WorkArea.{shown}
 use Rattle.positions.proofs.Listing.{listed-fits, listed-at}
-use Rattle.positions.proofs.Passed.{Passed, passed-none, passed-more}
+use Rattle.model.proofs.Scan.{Scanned, scanned-none, scanned-more}
 use Rattle.rules.specs.Searches.{hiding}
 use Rattle.rules.proofs.Listed.{entry-first, none-first}
 use Rattle.rules.proofs.Hidden.{hiding-writes, hides-is}
@@ -14,7 +14,7 @@ use Rattle.rules.proofs.consistency.hider.Statement.{statement}
 use Rattle.rules.proofs.consistency.hider.Tie as tie
 
 abbrev Inv-loop : tie.InvT-loop
-Inv-loop x part list m a w variable j₀ j = Passed (λ i. hiding (shown part) x a w (getD list i 0)) m j
+Inv-loop x part list m a w variable j₀ j = Scanned (λ i. hiding (shown part) x a w (getD list i 0)) m j
 
 abbrev μ-loop : tie.MeasureT-loop
 μ-loop x part list m a w variable j₀ j = m - j
@@ -30,7 +30,7 @@ hider-spec =
     Inv-loop
     μ-loop
     (λ c κs. search needs)
-    (λ c. passed-none _ _)
+    (λ c. scanned-none _ _)
     (λ c. search needs)
     (λ c. search needs)
     (λ c. omega (arith, listed-fits (c .before .before .before .before .before .pre)))
@@ -38,6 +38,6 @@ hider-spec =
     (λ c. entry-first _ _ (hiding-writes _ _ _ _) (c .before .before .before .before .before .before .before .before .pre) (c .before .before .before .before .loop .inv) (omega arith) (tested (c .before)) (c .if1 .taken))
     (λ c. search needs)
     (λ c. search needs)
-    (λ c. passed-more (c .before .before .before .before .loop .inv) (omega arith) (tested (c .before)) (c .if1 .left))
+    (λ c. scanned-more (c .before .before .before .before .loop .inv) (omega arith) (tested (c .before)) (c .if1 .left))
     (λ c κs. search needs)
     (λ c. c .size .ensures ∙ none-first _ _ (hiding-writes _ _ _ _) (c .before .before .before .before .before .before .pre) (c .before .before .loop .inv) (omega arith)))

@@ -15,14 +15,14 @@ use Rattle.model.proofs.Answers.{rule₂-none}
 use Rattle.positions.specs.Lists.{plains}
 use Rattle.positions.proofs.Sets.{are-plain}
 use Rattle.positions.proofs.Listing.{is-listed}
-use Rattle.positions.proofs.Passed.{Passed, passed-none, passed-more}
+use Rattle.model.proofs.Scan.{Scanned, scanned-none, scanned-more}
 use Rattle.rules.specs.Searches.{later-race}
 use Rattle.rules.proofs.Pairs.{paired, pair-plain, pair-none, pair-at}
 use Rattle.rules.proofs.races.least_pair.Statement.{statement}
 use Rattle.rules.proofs.races.least_pair.Tie as tie
 
 abbrev Inv-loop : tie.InvT-loop
-Inv-loop x part n m list i₀ a₀ i a = (i ≡ count a (plain x)) × Passed (paired (shown part) x) n a
+Inv-loop x part n m list i₀ a₀ i a = (i ≡ count a (plain x)) × Scanned (paired (shown part) x) n a
 
 abbrev μ-loop : tie.MeasureT-loop
 μ-loop x part n m list i₀ a₀ i a = n - a
@@ -49,11 +49,11 @@ loop-again c =
     ⊎-elim
     (λ w. (
       omega (arith, w .4, rw (kinds ∙ w .0 .taken) at more),
-      passed-more (c .before .before .before .loop .inv .1) (omega arith) (sym (pair-none _ x a (w .2 .ensures) (omega (arith, c .before .before .before .before .before .before .size .ensures, w .3 .left)))) refl,
+      scanned-more (c .before .before .before .loop .inv .1) (omega arith) (sym (pair-none _ x a (w .2 .ensures) (omega (arith, c .before .before .before .before .before .before .size .ensures, w .3 .left)))) refl,
     ))
     (λ w. (
       omega (arith, w .1, rw (kinds ∙ w .0 .left) at more),
-      passed-more (c .before .before .before .loop .inv .1) (omega arith) (sym (pair-plain _ x a (kinds ∙ w .0 .left))) refl,
+      scanned-more (c .before .before .before .loop .inv .1) (omega arith) (sym (pair-plain _ x a (kinds ∙ w .0 .left))) refl,
     ))
     (c .if1 .came)
 
@@ -70,7 +70,7 @@ least-pair-spec =
     μ-loop
     (λ c κs. search needs)
     (λ c κs. search needs)
-    (λ c. (sym (count-none _), passed-none _ _))
+    (λ c. (sym (count-none _), scanned-none _ _))
     (λ c κs. search needs)
     (λ c. omega (arith, count-le (plain (c .before .before .before .before .before .before .before .before .before .args .x .now)) (c .before .before .before .loop .a)))
     raced-requires

@@ -6,7 +6,7 @@ use lib.ListN.{getD}
 use borrow.Author.Needs.{needs}
 use Rattle.model.specs.WorkArea.{shown}
 use Rattle.positions.proofs.Listing.{listed-fits}
-use Rattle.positions.proofs.Passed.{Passed, passed-more}
+use Rattle.model.proofs.Scan.{Scanned, scanned-more}
 use Rattle.rules.specs.Searches.{later-race}
 use Rattle.rules.proofs.Listed.{entry-first, none-first}
 use Rattle.rules.proofs.Pairs.{races-plain, upto-passed, races-is}
@@ -14,7 +14,7 @@ use Rattle.rules.proofs.races.raced.Statement.{statement}
 use Rattle.rules.proofs.races.raced.Tie as tie
 
 abbrev Inv-loop : tie.InvT-loop
-Inv-loop x part list m from a variable writes j₀ j = (from ≤ j) × Passed (λ i. later-race (shown part) x a (getD list i 0)) m j
+Inv-loop x part list m from a variable writes j₀ j = (from ≤ j) × Scanned (λ i. later-race (shown part) x a (getD list i 0)) m j
 
 abbrev μ-loop : tie.MeasureT-loop
 μ-loop x part list m from a variable writes j₀ j = m - j
@@ -43,6 +43,6 @@ raced-spec =
     (λ c. entry-first _ _ (races-plain _ _ _) (c .before .before .before .before .before .before .before .before .before .pre .1 .1 .0) (c .before .before .before .before .loop .inv .1) (omega arith) (tested (c .before)) (c .if1 .taken))
     (λ c. search needs)
     (λ c. search needs)
-    (λ c. (omega arith, passed-more (c .before .before .before .before .loop .inv .1) (omega arith) (tested (c .before)) (c .if1 .left)))
+    (λ c. (omega arith, scanned-more (c .before .before .before .before .loop .inv .1) (omega arith) (tested (c .before)) (c .if1 .left)))
     (λ c κs. search needs)
     (λ c. c .size .ensures ∙ none-first _ _ (races-plain _ _ _) (c .before .before .before .before .before .before .before .pre .1 .1 .0) (c .before .before .loop .inv .1) (omega arith)))

@@ -3,12 +3,12 @@ use Prim.Native.Nat.{_-_}
 use native.Mathlib.Omega.{arith}
 use borrow.Author.Needs.{needs}
 use Rattle.model.specs.Rules.{broken15}
-use Rattle.positions.proofs.Passed.{Passed, passed-none, passed-more, passed-here, passed-all}
+use Rattle.model.proofs.Scan.{Scanned, scanned-none, scanned-more, scanned-here, scanned-all}
 use Rattle.rules.proofs.seen.first15.Statement.{statement}
 use Rattle.rules.proofs.seen.first15.Tie as tie
 
 abbrev Inv-loop : tie.InvT-loop
-Inv-loop x source list count n a₀ a = Passed (broken15 x) n a
+Inv-loop x source list count n a₀ a = Scanned (broken15 x) n a
 
 abbrev μ-loop : tie.MeasureT-loop
 μ-loop x source list count n a₀ a = n - a
@@ -20,10 +20,10 @@ first15-spec =
     Inv-loop
     μ-loop
     (λ c κs. search needs)
-    (λ c. passed-none _ _)
+    (λ c. scanned-none _ _)
     (λ c κs. (omega (arith, c .before .before .size .ensures), (c .before .before .before .before .pre .0, c .before .before .before .before .pre .1)))
-    (λ c. passed-here (c .before .before .before .loop .inv) (c .before .before .before .before .size .ensures) (omega arith) (c .before .broken15 .ensures) (c .if1 .taken))
+    (λ c. scanned-here (c .before .before .before .loop .inv) (c .before .before .before .before .size .ensures) (omega arith) (c .before .broken15 .ensures) (c .if1 .taken))
     (λ c. search needs)
     (λ c. search needs)
-    (λ c. passed-more (c .before .before .before .loop .inv) (omega arith) (c .before .broken15 .ensures) (c .if1 .left))
-    (λ c. passed-all (c .before .loop .inv) (c .before .before .size .ensures) (omega arith)))
+    (λ c. scanned-more (c .before .before .before .loop .inv) (omega arith) (c .before .broken15 .ensures) (c .if1 .left))
+    (λ c. scanned-all (c .before .loop .inv) (c .before .before .size .ensures) (omega arith)))

@@ -5,7 +5,7 @@ use mathlib.Core.Path.{_≡_, _∙_}
 use lib.ListN.{getD}
 use borrow.Author.Needs.{needs}
 use Rattle.positions.proofs.Listing.{listed-fits, listed-at}
-use Rattle.positions.proofs.Passed.{Passed, passed-none, passed-more}
+use Rattle.model.proofs.Scan.{Scanned, scanned-none, scanned-more}
 use Rattle.rules.specs.Searches.{seen-by}
 use Rattle.rules.proofs.Listed.{entry-first, none-first}
 use Rattle.rules.proofs.Sources.{seen-writes, sought-is}
@@ -13,7 +13,7 @@ use Rattle.rules.proofs.seen.seen_write.Statement.{statement}
 use Rattle.rules.proofs.seen.seen_write.Tie as tie
 
 abbrev Inv-loop : tie.InvT-loop
-Inv-loop x list m a d variable j₀ j = Passed (λ i. seen-by x a (getD list i 0)) m j
+Inv-loop x list m a d variable j₀ j = Scanned (λ i. seen-by x a (getD list i 0)) m j
 
 abbrev μ-loop : tie.MeasureT-loop
 μ-loop x list m a d variable j₀ j = m - j
@@ -31,7 +31,7 @@ seen-write-spec =
     μ-loop
     (λ c κs. search needs)
     (λ c κs. search needs)
-    (λ c. passed-none _ _)
+    (λ c. scanned-none _ _)
     (λ c. search needs)
     (λ c. search needs)
     (λ c. omega (arith, listed-fits (c .before .before .before .before .before .pre)))
@@ -39,6 +39,6 @@ seen-write-spec =
     (λ c. entry-first _ _ (seen-writes _ _) (c .before .before .before .before .before .before .before .before .pre) (c .before .before .before .before .loop .inv) (omega arith) (tested (c .before)) (c .if1 .taken))
     (λ c. search needs)
     (λ c. search needs)
-    (λ c. passed-more (c .before .before .before .before .loop .inv) (omega arith) (tested (c .before)) (c .if1 .left))
+    (λ c. scanned-more (c .before .before .before .before .loop .inv) (omega arith) (tested (c .before)) (c .if1 .left))
     (λ c κs. search needs)
     (λ c. c .size .ensures ∙ none-first _ _ (seen-writes _ _) (c .before .before .before .before .before .before .pre) (c .before .before .loop .inv) (omega arith)))

@@ -3,7 +3,7 @@ use Prim.Native.Nat.{ℕ, _+_, _*_}
 use mathlib.Core.List.{List}
 use mathlib.Core.Bool.{Bool, not, _&&_, _||_}
 use lib.Dec.{eqb, ltb}
-use Rattle.model.specs.Layout.{place, row}
+use Rattle.model.specs.Layout.{thread, target, place, row}
 use Rattle.model.specs.Relations.{number}
 use Rattle.relations.specs.declared.Object.{Object}
 use Rattle.relations.specs.declared.Offer.{Offer}
@@ -27,6 +27,10 @@ offered x a =
       placed = row x a .gives .placed;
       place = place x a;
     }
+
+-- v is b's target or its thread
+abbrev pub near : List ℕ → ℕ → ℕ → Bool
+near x v b = eqb v (target x b) || eqb v (thread x b)
 
 -- b takes it, and where places decide has a larger one
 unfoldable pub accepts : List ℕ → Offer → ℕ → Bool

@@ -8,7 +8,7 @@ use table::gives;
 use table::takes;
 ghost use mathlib.Core.Path.{_≡_};
 ghost use Rattle.model.specs.Relations.{po, number, sw};
-ghost use Rattle.relations.specs.Objects.{given, taken, offered, accepts, key};
+ghost use Rattle.relations.specs.Objects.{given, taken, offered, near, accepts, key};
 
 // An object by which actions synchronize.
 pub struct Object {
@@ -72,15 +72,28 @@ pub fn offered(x: &[u8], a: u16) -> Offer
     }
 }
 
-// Whether b takes what is offered.
+// Whether the number is that of b's thread or of its target: no other object is one of b's.
+fn near(x: &[u8], v: u8, b: u16) -> bool
+    ensures { λ r. ⌜ r ≡ near (now (x .entry)) v b ⌝ }
+{
+    if v == target(x, b) {
+        return true;
+    }
+    v == thread(x, b)
+}
+
+// Whether b takes what is offered. Most pairs differ in the number, which is asked first and without the kind.
 pub fn accepts(x: &[u8], w: Offer, b: u16) -> bool
     ensures { λ r. ⌜ r ≡ accepts (now (x .entry)) w b ⌝ }
 {
-    let o = taken(x, b);
+    if !near(x, w.number, b) {
+        return false;
+    }
+    let o = takes(kind(x, b));
     if w.class != o.class {
         return false;
     }
-    if w.number != o.number {
+    if w.number != number(o, x, b) {
         return false;
     }
     if w.placed {

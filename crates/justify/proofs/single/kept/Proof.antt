@@ -1,17 +1,16 @@
 -- `justify::single::kept` meets its contract.
-use Prim.Native.Nat.{_≤_, _-_}
+use Prim.Native.Nat.{_-_}
 use native.Mathlib.Omega.{arith}
-use mathlib.Core.Path.{_≡_, sym}
-use mathlib.Core.Bool.{false}
+use mathlib.Core.Path.{sym}
 use borrow.Author.Needs.{needs}
-use Rattle.model.specs.Search.{any}
 use Rattle.model.specs.Justified.{alike}
-use Rattle.model.proofs.Search.{any-none, any-pass, any-at}
+use Rattle.model.proofs.Search.{any-at}
+use Rattle.model.proofs.Scan.{Scanned, scanned-none, scanned-more, scanned-some, scanned-nowhere}
 use Rattle.justify.proofs.single.kept.Statement.{statement}
 use Rattle.justify.proofs.single.kept.Tie as tie
 
 abbrev Inv-loop : tie.InvT-loop
-Inv-loop e f x a n y₀ y = (y ≤ n) × (any y (alike e f a) ≡ false)
+Inv-loop e f x a n y₀ y = Scanned (alike e f a) n y
 
 abbrev μ-loop : tie.MeasureT-loop
 μ-loop e f x a n y₀ y = n - y
@@ -19,24 +18,6 @@ abbrev μ-loop : tie.MeasureT-loop
 returns : tie.Need-returns Inv-loop μ-loop
 returns c =
     sym (any-at _ _ _ (rw (c .before .before .before .size .ensures) at (c .before .before .if1 .taken)) (rw (c .before .alike .ensures) at (c .if2 .taken)))
-
-loop-holds : tie.Need-loop-holds Inv-loop μ-loop
-loop-holds c = (search needs, any-none _)
-
-returns-2 : tie.Need-returns-2 Inv-loop μ-loop
-returns-2 c =
-    sym (any-at _ _ (c .before .before .before .loop .y) (search needs) (rw (c .before .alike2 .ensures) at (c .if3 .taken)))
-
-loop-again : tie.Need-loop-again Inv-loop μ-loop
-loop-again c = (
-  search needs,
-  any-pass _ _ (c .before .before .before .loop .inv .1) (rw (c .before .alike2 .ensures) at (c .if3 .left)),
-)
-
-returns-3 : tie.Need-returns-3 Inv-loop μ-loop
-returns-3 c =
-    let e : c .before .loop .y ≡ c .before .before .before .size .result = omega arith in
-    rw (← (c .before .before .before .size .ensures), ← e) (sym (c .before .loop .inv .1))
 
 pub kept-spec : {M : Type 1} → statement M
 kept-spec =
@@ -47,10 +28,10 @@ kept-spec =
     (λ c κs. search needs)
     (λ c κs. search needs)
     returns
-    loop-holds
+    (λ c. scanned-none _ _)
     (λ c κs. search needs)
-    returns-2
+    (λ c. scanned-some (c .before .before .before .loop .inv) (c .before .before .before .before .before .size .ensures) (omega arith) (c .before .alike2 .ensures) (c .if3 .taken))
     (λ c. search needs)
     (λ c. search needs)
-    loop-again
-    returns-3)
+    (λ c. scanned-more (c .before .before .before .loop .inv) (omega arith) (c .before .alike2 .ensures) (c .if3 .left))
+    (λ c. scanned-nowhere (c .before .loop .inv) (c .before .before .before .size .ensures) (omega arith)))

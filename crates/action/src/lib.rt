@@ -1,5 +1,7 @@
 // The field check: number 6 of one action, under the header of its record. It asks nothing of where the action stands, so a reader of records, a
 // writer and a replay may each ask it.
+#![tactic(auto)]
+
 ghost use Rattle.std.specs.Prelude.{◌≡◌, ◌&&◌, ltb};
 ghost use Rattle.std.specs.Bool.{beq};
 ghost use Rattle.model.specs.Layout.{volatile};

@@ -1,4 +1,6 @@
 // Answers, as every layer makes them.
+#![tactic(auto)]
+
 ghost use Rattle.std.specs.Prelude.{◌≡◌};
 ghost use Rattle.model.specs.Search.{none};
 ghost use Rattle.model.specs.Answers.{answer, naming};

@@ -1,4 +1,6 @@
 // What 28 asks of an edge of a section: whether it is one that must stand in other sections and doesn't.
+#![tactic(auto)]
+
 ghost use Rattle.std.specs.Prelude.{◌≡◌, ◌&&◌, ◌||◌, eqb, leb};
 ghost use Rattle.model.specs.Search.{any};
 ghost use Rattle.model.specs.Layout.{section, size, ident};

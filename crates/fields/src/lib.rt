@@ -1,4 +1,6 @@
 // The fields of a record and of a section, read from their bytes in place. A byte past the end reads as 0, so every accessor takes every input.
+#![tactic(auto)]
+
 ghost use Rattle.std.specs.Prelude.{◌≡◌, ◌+◌, ◌*◌, ◌<◌};
 ghost use Rattle.std.specs.Int.{w64};
 ghost use Rattle.std.proofs.Common.{to_z};

@@ -1,4 +1,6 @@
 // Happens-before of a section, in the words of its own part.
+#![tactic(auto)]
+
 ghost use Rattle.std.specs.Prelude.{◌≡◌, ◌≤◌, length};
 ghost use Rattle.model.specs.Limits.{max_actions, part_words};
 ghost use Rattle.rows.specs.Part.{table};

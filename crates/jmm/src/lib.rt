@@ -1,4 +1,6 @@
 // The library: the three questions about a record, and the host's two calls.
+#![tactic(auto)]
+
 ghost use Rattle.std.specs.Prelude.{◌≡◌, ◌+◌, length};
 ghost use Rattle.model.specs.Answers.{packed, up_to};
 ghost use Rattle.model.specs.Layout.{K, section};

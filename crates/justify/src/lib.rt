@@ -1,4 +1,6 @@
 // Rules 21 to 29: the committing sequence, for one i. e is section 0 of the record r and f section i.
+#![tactic(auto)]
+
 mod found;
 mod given;
 mod pair;

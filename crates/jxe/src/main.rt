@@ -1,4 +1,6 @@
 // Judges the record on standard input: a line for each question, and the list after order's 0.
+#![tactic(auto)]
+
 use libc::{STDIN_FILENO, STDOUT_FILENO};
 use model::{Answer, MAX_ACTIONS, MAX_BYTES, MAX_WORDS, PART_WORDS};
 

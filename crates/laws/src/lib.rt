@@ -1,1 +1,2 @@
 // Theorems about document 01's definitions; see proofs/. There is no code here.
+#![tactic(auto)]

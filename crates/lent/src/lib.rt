@@ -1,4 +1,6 @@
 // The three questions for C, where the caller lends the words and the list.
+#![tactic(auto)]
+
 ghost use Rattle.std.specs.Prelude.{◌≡◌, length};
 ghost use Rattle.model.specs.Answers.{packed};
 ghost use Rattle.model.specs.Questions.{verdict, verdict_words, race, race_words, order, order_words, order_list};

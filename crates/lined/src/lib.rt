@@ -1,4 +1,6 @@
 // Happens-before of a section in line: every edge goes to a later position, and so one sweep from the last action to the first closes it.
+#![tactic(auto)]
+
 ghost use Rattle.std.specs.Prelude.{◌≡◌, false, not, cond, ◌<◌, ◌≤◌, length, replicate};
 ghost use Rattle.model.specs.Limits.{max_actions, row_words, part_words};
 ghost use Rattle.model.specs.Layout.{size};

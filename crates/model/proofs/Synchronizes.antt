@@ -34,7 +34,7 @@ each : (n : ℕ) (t : Test n) → all n t ≡ true → Each n t
 each zero t h = h
 each (suc n) t h =
     let (p, q) = both (all n (t true)) (all n (t false)) h in
-    λ b. elim b [ true ↦ each n (t true) p | false ↦ each n (t false) q ]
+    λ b. elim b as (λ k. Each n (t k)) [ true ↦ each n (t true) p | false ↦ each n (t false) q ]
 
 -- the two sides by the kinds; the Bools say: target is target, target is thread, thread is target, thread is thread, the place is larger
 listed : ℕ → ℕ → Bool → Bool → Bool → Bool → Bool

@@ -1,5 +1,5 @@
 -- An answer is (N, S, A, B). Smaller numbers are checked first: the answer is the first in a row of checks that is not 0.
-use Rattle.std.specs.Prelude.{ℕ, zero, suc, ◌+◌, ◌*◌, ◌^◌, Bool, true, false, cond, eqb}
+use Rattle.std.specs.Prelude.{ℕ, zero, suc, ◌+◌, ◌*◌, ◌^◌, Bool, true, false, eqb}
 use Rattle.model.specs.declared.Answer.{Answer}
 use Rattle.model.specs.Search.{any, found, none}
 

@@ -1,5 +1,5 @@
 -- The bench cases 1 to 11 that are marked P, as one table. The records are built from the document's description.
-use Rattle.std.specs.Prelude.{ℕ, ◌+◌, ◌*◌, ◌^◌, List, [], ◌∷◌, ◌++◌, Bool, true, false, ◌&&◌, length, take, replicate, eqb}
+use Rattle.std.specs.Prelude.{ℕ, List, [], ◌∷◌, ◌++◌, Bool, true, false, ◌&&◌, length, take, replicate, eqb}
 use Rattle.model.specs.declared.Answer.{Answer}
 use Rattle.model.specs.Search.{none}
 use Rattle.model.specs.Answers.{answer, packed}

@@ -1,6 +1,6 @@
 -- Rules 21 to 29: the committing sequence. e is section 0 and f section i, g and h are happens-before of the one and of the other; a, b are positions
 -- of e and x, y, z positions of f.
-use Rattle.std.specs.Prelude.{ℕ, ◌+◌, ◌-◌, List, Bool, true, false, not, cond, ◌&&◌, ◌||◌, eqb, ltb, leb}
+use Rattle.std.specs.Prelude.{ℕ, ◌+◌, ◌-◌, List, Bool, not, cond, ◌&&◌, ◌||◌, eqb, ltb, leb}
 use Rattle.std.specs.Bool.{beq}
 use Rattle.model.specs.declared.Answer.{Answer}
 use Rattle.model.specs.Search.{any}

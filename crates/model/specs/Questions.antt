@@ -1,9 +1,9 @@
 -- The three questions: the answer, the words and the list that each leaves, for every input.
-use Rattle.std.specs.Prelude.{ℕ, suc, ◌+◌, ◌*◌, List, ◌++◌, Bool, true, false, cond, length, drop, eqb, ltb}
+use Rattle.std.specs.Prelude.{ℕ, ◌+◌, ◌*◌, List, ◌++◌, cond, length, drop, eqb, ltb}
 use Rattle.model.specs.declared.Answer.{Answer}
 use Rattle.model.specs.Limits.{part_words}
 use Rattle.model.specs.Search.{none}
-use Rattle.model.specs.Answers.{answer, pass, when, up_to, ◌then◌}
+use Rattle.model.specs.Answers.{answer, when, up_to, ◌then◌}
 use Rattle.model.specs.Layout.{K, section, size}
 use Rattle.model.specs.Relations.{hb}
 use Rattle.model.specs.Refused.{refusal}

@@ -1,5 +1,5 @@
 -- Numbers 1 to 8: when a record is refused.
-use Rattle.std.specs.Prelude.{ℕ, ◌+◌, ◌*◌, min, List, Bool, true, false, not, cond, ◌&&◌, ◌||◌, length, eqb, ltb, leb, pos}
+use Rattle.std.specs.Prelude.{ℕ, ◌+◌, min, List, Bool, not, cond, ◌&&◌, ◌||◌, length, eqb, ltb, leb, pos}
 use Rattle.std.specs.Bool.{beq}
 use Rattle.model.specs.declared.Answer.{Answer}
 use Rattle.model.specs.declared.Kind.{Kind}

@@ -1,9 +1,9 @@
 -- Rules 11 to 18 on a section x, and the race of number 31. Each is a test of an action; the answer names the first action that fails it.
 -- h is happens-before of the section.
-use Rattle.std.specs.Prelude.{ℕ, ◌+◌, List, Bool, true, false, not, cond, ◌&&◌, ◌||◌, eqb, ltb, leb, ℤ, pos}
+use Rattle.std.specs.Prelude.{ℕ, List, Bool, true, not, cond, ◌&&◌, ◌||◌, eqb, ltb, ℤ, pos}
 use Rattle.model.specs.declared.Answer.{Answer}
-use Rattle.model.specs.Search.{any, first, count, found, none}
-use Rattle.model.specs.Answers.{naming, rule, rule₂, ◌then◌}
+use Rattle.model.specs.Search.{any, first, count}
+use Rattle.model.specs.Answers.{rule, rule₂, ◌then◌}
 use Rattle.model.specs.Layout.{size, ident, thread, kind, target, place, seen, value, same_ℤ, sync, read, write}
 use Rattle.model.specs.Relations.{race}
 

@@ -1,5 +1,5 @@
 -- Searches over positions, by which every rule is stated.
-use Rattle.std.specs.Prelude.{ℕ, zero, suc, ◌+◌, Bool, true, false, cond, ◌||◌, ltb}
+use Rattle.std.specs.Prelude.{ℕ, zero, suc, ◌+◌, Bool, false, cond, ◌||◌, ltb}
 
 -- p holds at some position below n
 unfoldable pub any : ℕ → (ℕ → Bool) → Bool

@@ -1,4 +1,5 @@
 // Document 01 in definitions: specs/ is what a reader must believe. The code here is the shapes and the numbers that every layer shares.
+#![tactic(auto)]
 
 // The answer (N, S, A, B) to a question: number, section, positions.
 #[derive(Drop)]

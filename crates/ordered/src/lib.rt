@@ -1,5 +1,7 @@
 // Rules 11 to 14 on one section x, which ask for no happens-before. Positions are below the section's count; a field past the section's end reads as 0, so
 // every x has its answer.
+#![tactic(auto)]
+
 mod monitors;
 mod order;
 mod threads;

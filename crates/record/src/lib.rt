@@ -1,4 +1,6 @@
 // The reader: a record is refused, with a number from 1 to 7, exactly when document 01 says. A section is the part of the record's bytes from its start to its end.
+#![tactic(auto)]
+
 ghost use Rattle.std.specs.Prelude.{◌≡◌, ◌+◌, ◌<◌, ◌≤◌, min, length};
 ghost use Rattle.model.specs.Search.{any};
 ghost use Rattle.model.specs.Answers.{up_to};

@@ -1,4 +1,6 @@
 // Program order and synchronizes-with between two actions of a section: what an action gives and takes is what the table says of its kind.
+#![tactic(auto)]
+
 ghost use Rattle.std.specs.Prelude.{◌≡◌};
 ghost use Rattle.model.specs.Relations.{po, number, sw};
 ghost use Rattle.relations.specs.Objects.{given, taken, offered, near, accepts, key};

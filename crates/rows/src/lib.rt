@@ -1,4 +1,6 @@
 // Rows of bits in lent words: row a is ROW_WORDS words, and bit b mod 64 of its word b div 64 stands for the pair (a, b).
+#![tactic(auto)]
+
 ghost use Rattle.std.specs.Prelude.{◌≡◌, ◌+◌, ◌*◌, ◌≤◌, length, replicate, cond};
 ghost use Rattle.model.specs.Limits.{row_words};
 ghost use Rattle.model.specs.WorkArea.{shown};

@@ -1,5 +1,7 @@
 // Rules 15 to 18 on one section x and its race, number 31, and the chain 11 to 18, for which `ordered` has the first four. Positions are below the section's
 // count; a field past the section's end reads as 0, so every x has its answer.
+#![tactic(auto)]
+
 mod consistency;
 mod races;
 mod seen;

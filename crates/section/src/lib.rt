@@ -1,4 +1,6 @@
 // The section check: numbers 6 and 7 on the bytes of one section.
+#![tactic(auto)]
+
 ghost use Rattle.std.specs.Prelude.{◌≡◌};
 ghost use Rattle.model.specs.Search.{found};
 ghost use Rattle.model.specs.Answers.{rule};

@@ -1,4 +1,6 @@
 // The one-at-a-time order of a section, put into a lent list.
+#![tactic(auto)]
+
 ghost use Rattle.std.specs.Prelude.{◌≡◌, ◌++◌, cond, length, drop, leb};
 ghost use Rattle.model.specs.Layout.{size};
 ghost use Rattle.model.specs.Serial.{serial};

@@ -1,4 +1,6 @@
 // The table of the action kinds, the one place that says what each is: consulted by the field check, the relations and the rules.
+#![tactic(auto)]
+
 ghost use Rattle.std.specs.Prelude.{◌≡◌};
 ghost use Rattle.model.specs.Kinds.{kind_row};
 ghost use Rattle.model.specs.Layout.{sync, read, write};

@@ -8,8 +8,7 @@ use mir.Syntax.{w64}
 use mir.Val.{SFits, to_z}
 use mir.Facts.{to_z-of_z, to_z_pos, to_z-neg}
 use borrow.Author.Rules.{rules}
-use Rattle.fields.proofs.signed.Statement.{statement}
-use Rattle.fields.proofs.signed.Tie as tie
+use Rattle.fields.proofs.signed.Goals as goal
 
 minus : (m : ℕ) → negsuc 0 -ℤ pos m ≡ negsuc m
 minus zero = refl
@@ -30,21 +29,10 @@ module _ (v : ℕ) (high : 2 ^ 63 ≤ v) (fits : v < 2 ^ 64) where
       let e : 2 ^ 64 - suc (18446744073709551615 - v) ≡ v = omega arith in
       less ∙ sym (to_z-neg w64 (18446744073709551615 - v) below) ∙ ap (to_z w64) e
 
-sub-result-2 : tie.Need-overflow-sub-result-2
-sub-result-2 c = in_range c.before.args.v (search rules) (search rules)
+pub overflow_sub-result-else-v-lt9223372036854775808 : goal.overflow_sub-result-else-v-lt9223372036854775808
+overflow_sub-result-else-v-lt9223372036854775808 c = in_range c.args.v (search rules) (search rules)
 
-returns-2 : tie.Need-returns-2
-returns-2 c =
-    to_z-of_z (in_range c.before.args.v (search rules) (search rules))
-    ∙ same c.before.args.v (search rules) (search rules)
-
-pub signed-spec : {M : Type 1} → statement M
-signed-spec =
-    tie.close
-    (tie.spec
-    (λ c. search rules)
-    (λ c. search rules)
-    (λ c. search rules)
-    sub-result-2
-    (λ c. search rules)
-    returns-2)
+pub returns-else-v-lt9223372036854775808 : goal.returns-else-v-lt9223372036854775808
+returns-else-v-lt9223372036854775808 c =
+    to_z-of_z (in_range c.args.v (search rules) (search rules))
+    ∙ same c.args.v (search rules) (search rules)

@@ -2,7 +2,7 @@
 #![tactic(auto)]
 
 // The answer (N, S, A, B) to a question: number, section, positions.
-#[derive(Drop)]
+#[derive(Clone, Copy)]
 pub struct Answer {
     pub n: u8,
     pub s: u8,
@@ -90,7 +90,7 @@ pub const NOTHING_TAKEN: u8 = 5;
 
 // What the actions of a kind give to later ones, or take from earlier ones: an object of a class, whose number is the action's own thread or its
 // target; and whether the places of giver and taker decide.
-#[derive(Drop)]
+#[derive(Clone, Copy)]
 pub struct Objects {
     pub class: u8,
     pub own: bool,
@@ -99,7 +99,7 @@ pub struct Objects {
 
 // A row of the table of kinds: the target's class, whether a variable must be volatile, whether the kind is a synchronization kind, a read, a write;
 // what it gives and what it takes.
-#[derive(Drop)]
+#[derive(Clone, Copy)]
 pub struct Kind {
     pub target: u8,
     pub volatile: bool,
@@ -111,7 +111,7 @@ pub struct Kind {
 }
 
 // T, V, M and K of a record, and its map as one number.
-#[derive(Drop)]
+#[derive(Clone, Copy)]
 pub struct Header {
     pub threads: u8,
     pub variables: u8,
@@ -121,7 +121,7 @@ pub struct Header {
 }
 
 // The fields of an action.
-#[derive(Drop)]
+#[derive(Clone, Copy)]
 pub struct Action {
     pub ident: u16,
     pub thread: u8,

@@ -11,7 +11,7 @@ pub const KEYS: usize = 256;
 
 // The tables: of the synchronization actions by their places, of all actions by their threads, of the starts by the threads that they start, of all
 // actions by the low bytes of their identifiers.
-#[derive(Drop)]
+#[derive(Clone, Copy)]
 pub enum Key {
     Place,
     Thread,

@@ -15,7 +15,7 @@ use model::{
 };
 
 // Where a section stands in the record's bytes.
-#[derive(Drop)]
+#[derive(Clone, Copy)]
 pub struct Span {
     pub at: usize,
     pub end: usize,

@@ -10,14 +10,14 @@ use model::Objects;
 use table::{gives, takes};
 
 // An object by which actions synchronize.
-#[derive(Drop)]
+#[derive(Clone, Copy)]
 pub struct Object {
     pub class: u8,
     pub number: u8,
 }
 
 // What an action offers to later ones: its object, and whether they take it at larger places alone.
-#[derive(Drop)]
+#[derive(Clone, Copy)]
 pub struct Offer {
     pub class: u8,
     pub number: u8,

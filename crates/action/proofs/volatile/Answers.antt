@@ -4,14 +4,10 @@ use native.Mathlib.Nat.{div-eq_of_lt}
 use native.Mathlib.Omega.{arith}
 use lib.Pow.{pow_mono}
 use borrow.Author.Rules.{rules}
-use Rattle.action.proofs.volatile.Statement.{statement}
-use Rattle.action.proofs.volatile.Tie as tie
+use Rattle.action.proofs.volatile.Goals as goal
 
-returns : tie.Need-returns
-returns c =
-    let a = c.before.args in
+pub returns-then-t-ge-MAX_VARIABLES : goal.returns-then-t-ge-MAX_VARIABLES
+returns-then-t-ge-MAX_VARIABLES c =
+    let a = c.args in
     let l : a.h.map < 2 ^ a.t = omega (arith, pow_mono {i = 64} {j = a.t} (search rules)) in
     rw (div-eq_of_lt l)
-
-pub volatile-spec : {M : Type 1} → statement M
-volatile-spec = tie.close (tie.spec returns (λ c. search rules) (λ c. search rules))

@@ -1,6 +1,6 @@
 pub mod Listed
 pub mod Sources
-pub mod Hidden
+pub mod Hiding
 pub mod Latest
 pub mod Pairs
 pub mod Unique

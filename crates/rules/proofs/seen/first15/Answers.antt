@@ -1,0 +1,23 @@
+-- `rules::seen::first15` meets its contract: no action before a breaks the rule.
+use native.Mathlib.Omega.{arith}
+use Rattle.model.proofs.Scan.{scanned_none, scanned_more, scanned_here, scanned_all}
+use Rattle.rules.proofs.seen.first15.Goals as goal
+
+pub loop-a-init : goal.loop-a-init
+loop-a-init c = scanned_none _ _
+
+pub broken15-requires : goal.broken15-requires
+broken15-requires c = record {
+  a_bound = omega (arith, c.size-n.ensures);
+  sources = c.requires.sources;
+  listed = c.requires.listed;
+}
+
+pub returns-then-broken15 : goal.returns-then-broken15
+returns-then-broken15 c = scanned_here c.loop-a.invariant c.size-n.ensures (omega arith) c.broken15.ensures c.if-broken15.true
+
+pub loop-a-preserved : goal.loop-a-preserved
+loop-a-preserved c = scanned_more c.loop-a.invariant (omega arith) c.broken15.ensures c.if-broken15.false
+
+pub returns : goal.returns
+returns c = scanned_all c.loop-a.invariant c.size-n.ensures (omega arith)

@@ -187,16 +187,14 @@ pub fn packed(r: Answer) -> u64
 }
 
 // The host's two calls: the words are ours.
-#[unsafe(no_mangle)]
-pub extern "C" fn jxe_verdict(record: &[u8]) -> u64
+pub fn jxe_verdict(record: &[u8]) -> u64
     ensures { result ≡ packed (verdict «record».now 2304) }
 {
     let mut work = [0u64; MAX_WORDS];
     packed(verdict(record, &mut work))
 }
 
-#[unsafe(no_mangle)]
-pub extern "C" fn jxe_race(record: &[u8]) -> u64
+pub fn jxe_race(record: &[u8]) -> u64
     ensures { result ≡ packed (race «record».now 256) }
 {
     let mut work = [0u64; PART_WORDS];

@@ -1,0 +1,50 @@
+-- `jmm::order_in` meets its contract.
+use mathlib.Core.Path.{sym}
+use native.Mathlib.Omega.{arith}
+use lib.Seq.{length-take-le}
+use Rattle.model.specs.Questions.{order_of}
+use Rattle.model.specs.Rules.{well_formed, racing}
+use Rattle.model.specs.Relations.{hb}
+use Rattle.model.specs.Layout.{section}
+use Rattle.jmm.proofs.Shown.{first_as}
+use Rattle.model.proofs.Answers.{ends, goes_on}
+use Rattle.record.proofs.Parts.{span_low, span_high}
+use Rattle.jmm.proofs.order_in.Goals as goal
+
+pub slice_bounds-well_formed-count : goal.slice_bounds-well_formed-count
+slice_bounds-well_formed-count c = span_low _ _ _ c.bounds-x.ensures
+
+pub slice_bounds-well_formed-start : goal.slice_bounds-well_formed-start
+slice_bounds-well_formed-start c = span_low _ _ _ c.bounds-x.ensures
+
+pub slice_bounds-well_formed-end : goal.slice_bounds-well_formed-end
+slice_bounds-well_formed-end c = span_high _ _ _ c.bounds-x.ensures
+
+pub slice_bounds-well_formed-end-2 : goal.slice_bounds-well_formed-end-2
+slice_bounds-well_formed-end-2 c = let room = c.requires.accepted.room in sym (length-take-le 256 c.args.work.now (omega arith))
+
+pub returns-then-broken-ne0 : goal.returns-then-broken-ne0
+unfolding order_of
+returns-then-broken-ne0 c =
+    let x = section c.args.«record».now 0 in
+    ends (first_as _ _ _ c.requires (λ h y. well_formed h 0 y) (omega arith) c.bounds-x.ensures c.well_formed-broken.ensures) (racing (hb x) x) c.if-broken-ne0.true
+
+pub slice_bounds-racing-count : goal.slice_bounds-racing-count
+slice_bounds-racing-count c = span_low _ _ _ c.bounds-x.ensures
+
+pub slice_bounds-racing-start : goal.slice_bounds-racing-start
+slice_bounds-racing-start c = span_low _ _ _ c.bounds-x.ensures
+
+pub slice_bounds-racing-end : goal.slice_bounds-racing-end
+slice_bounds-racing-end c = span_high _ _ _ c.bounds-x.ensures
+
+pub slice_bounds-racing-end-2 : goal.slice_bounds-racing-end-2
+slice_bounds-racing-end-2 c = let room = c.requires.accepted.room in sym (length-take-le 256 c.args.work.now (omega arith))
+
+pub returns : goal.returns
+unfolding order_of
+returns c =
+    let x = section c.args.«record».now 0 in
+    let at = c.bounds-x.ensures in
+    let formed = first_as _ _ _ c.requires (λ h y. well_formed h 0 y) (omega arith) at c.well_formed-broken.ensures in
+    goes_on formed c.if-broken-ne0.false (first_as _ _ _ c.requires racing (omega arith) at c.racing.ensures)

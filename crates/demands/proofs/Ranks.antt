@@ -17,7 +17,6 @@ use Rattle.model.specs.WorkArea.{list}
 use Rattle.model.proofs.Words.{length_list, get_or_list}
 use Rattle.model.proofs.Search.{first_is, first_upto}
 use Rattle.model.proofs.Serial.Pigeonhole.{Into, image, count_all, count_one, count_into}
-use Rattle.laws.proofs.Consistent.Orders.{within}
 use Rattle.demands.specs.Demands.{TotalOrder, Sequence, Precedes, ComesFrom}
 use Rattle.demands.proofs.Sequences.{order_of, total_order, only_list}
 

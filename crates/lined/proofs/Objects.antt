@@ -14,7 +14,7 @@ use Rattle.model.specs.Relations.{number}
 use Rattle.model.proofs.Bools.{both, same_truth, same_bool}
 use Rattle.model.proofs.Synchronizes.{every_row}
 use Rattle.relations.specs.Objects.{given, taken}
-use Rattle.lined.specs.Line.{given_row, taken_row, placed, freely}
+use Rattle.lined.specs.Line.{given_row, taken_row, freely}
 
 module _ (x : List ℕ) (a : ℕ) where
   pub given_class : (given x a).class < 5

@@ -8,7 +8,7 @@ use borrow.Author.Tests.{eqb-true, not-true}
 use Rattle.model.specs.Search.{any}
 use Rattle.model.specs.Kinds.{kind_row, nothing_given, nothing_taken}
 use Rattle.model.specs.Layout.{kind, place, row}
-use Rattle.model.specs.Relations.{number, sw, hands, tabled_sw}
+use Rattle.model.specs.Relations.{sw, hands, tabled_sw}
 use Rattle.model.proofs.Bools.{both}
 use Rattle.model.proofs.Synchronizes.{sw_table, every_row}
 use Rattle.relations.specs.Objects.{given, taken, key, offered, accepts}

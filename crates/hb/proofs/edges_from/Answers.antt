@@ -1,6 +1,5 @@
 -- `hb::edges_from` meets its contract: before entry j the edges to the entries before it are marked.
 use mathlib.Core.Path.{◌≡◌, sym, ap, ◌∙◌}
-use mathlib.Core.Logic.{⊎_elim}
 use native.Mathlib.Omega.{arith}
 use lib.ListN.{length}
 use Rattle.hb.proofs.Marks.{from_none, from_nothing, from_edge, from_kept, length_from}

@@ -2,7 +2,6 @@
 use mathlib.Core.Path.{sym, ap, ◌∙◌}
 use native.Mathlib.Omega.{arith}
 use Rattle.model.specs.Questions.{order, order_words}
-use Rattle.model.specs.Answers.{answer}
 use Rattle.model.specs.declared.Answer.{Answer}
 use Rattle.record.proofs.Parts.{span_section, span_low, span_high}
 use Rattle.model.proofs.Answers.{ends, goes_on}

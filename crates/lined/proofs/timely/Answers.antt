@@ -1,6 +1,5 @@
 -- `lined::timely` meets its contract: no action before a is late, and the rows that they take are marked.
 use mathlib.Core.Path.{◌≡◌, refl, sym, ap, ◌∙◌}
-use mathlib.Core.Logic.{⊎_elim}
 use native.Mathlib.Omega.{arith}
 use lib.ListN.{length-set}
 use borrow.Author.Tests.{eq-eqb, ne_eqb}

@@ -23,12 +23,11 @@ pub bounds-part-a : goal.bounds-part-a
 bounds-part-a c = omega (arith, c.loop-a.invariant.2.long)
 
 pub loop-a-preserved : goal.loop-a-preserved
-loop-a-preserved c =
-    (
-      omega arith,
-      λ i. (c.type_inv.part i).fits,
-      round_more _ _ _ c.loop-a.part c.loop-a.a _ c.loop-a.invariant.2 c.copied-taken.ensures (sym (bit_in _ _ _ _ (omega arith))) c.join_if.ensures,
-    )
+loop-a-preserved c = (
+  omega arith,
+  λ i. (c.type_inv.part i).fits,
+  round_more _ _ _ c.loop-a.part c.loop-a.a _ c.loop-a.invariant.2 c.copied-taken.ensures (sym (bit_in _ _ _ _ (omega arith))) c.join_if.ensures,
+)
 
 pub shape_of-part : goal.shape_of-part
 shape_of-part c = c.loop-a.invariant.2.long

@@ -1,5 +1,4 @@
 -- `table::row_of` meets its contract: each arm is a row of the definitions' table, and past its end stands row 0.
-use Prim.Native.Nat.{ℕ, zero, suc, ◌≤◌}
 use native.Mathlib.Omega.{arith}
 use mathlib.Core.Path.{◌≡◌, sym}
 use lib.ListN.{get_or-eq_default}

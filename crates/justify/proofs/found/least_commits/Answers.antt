@@ -3,7 +3,6 @@ use Prim.Native.Nat.{◌<◌}
 use Rattle.model.specs.Layout.{size}
 use native.Mathlib.Omega.{arith}
 use mathlib.Core.Path.{◌≡◌, refl, ap, ◌∙◌}
-use mathlib.Core.Logic.{⊎_elim}
 use lib.ListN.{length, length-set}
 use borrow.Author.Rules.{rules}
 use Rattle.model.specs.Limits.{max_actions}

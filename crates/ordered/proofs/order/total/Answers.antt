@@ -1,6 +1,5 @@
 -- `ordered::order::total` meets its contract: `passed` counts the synchronization actions before b.
 use mathlib.Core.Path.{◌≡◌, sym}
-use mathlib.Core.Logic.{⊎_elim}
 use native.Mathlib.Omega.{arith}
 use Rattle.model.specs.Layout.{size, sync}
 use Rattle.model.proofs.Search.{count_none, count_more}

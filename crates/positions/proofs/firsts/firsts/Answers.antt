@@ -3,7 +3,6 @@ use Prim.Native.Nat.{ℕ}
 use native.Mathlib.Omega.{arith}
 use mathlib.Core.Path.{◌≡◌}
 use mathlib.Core.List.{List}
-use mathlib.Core.Logic.{⊎_elim}
 use Rattle.model.specs.Layout.{size}
 use Rattle.positions.specs.Firsts.{key_of}
 use Rattle.positions.proofs.Tables.{Kept, kept_none, kept_old, kept_new, kept_all}

@@ -4,7 +4,6 @@ use native.Mathlib.Omega.{arith}
 use mathlib.Core.Path.{◌≡◌, refl, sym, ◌∙◌}
 use mathlib.Core.Bool.{Bool, true, false}
 use mathlib.Core.List.{List}
-use mathlib.Core.Logic.{⊎_elim}
 use lib.ListN.{replicate, length-set}
 use Rattle.model.specs.Limits.{max_actions}
 use Rattle.model.proofs.Search.{count_none, count_more}

@@ -2,7 +2,6 @@
 use native.Mathlib.Omega.{arith}
 use mathlib.Core.Path.{◌≡◌, refl, sym, ◌∙◌}
 use mathlib.Core.Bool.{true}
-use mathlib.Core.Logic.{⊎_elim}
 use Rattle.model.specs.Layout.{size}
 use Rattle.model.specs.Relations.{plain}
 use Rattle.model.specs.Rules.{racing}

@@ -25,25 +25,25 @@ loop-a-init c =
     (omega arith, c.clear.ensures ∙ rw e (passed_none x c.requires.part_len), rw e (noted_none x (thread x) 64), rw e (noted_none x (taken_row x) 384))
 
 -- a row of its own stays one
-joined-row : (ws vs : List ℕ) (o p : ℕ) {us : List ℕ} → us ≡ joined ws o vs p → row_words ≡ length ws → row_words ≡ length us
-joined-row ws vs o p e h = h ∙ sym (ap length e ∙ length_joined row_words ws o vs p)
+joined_row : (ws vs : List ℕ) (o p : ℕ) {us : List ℕ} → us ≡ joined ws o vs p → row_words ≡ length ws → row_words ≡ length us
+joined_row ws vs o p e h = h ∙ sym (ap length e ∙ length_joined row_words ws o vs p)
 
 pub slice_bounds-join-end-in-loop-a : goal.slice_bounds-join-end-in-loop-a
 slice_bounds-join-end-in-loop-a c = sym (ap length c.loop-a.invariant.2 ∙ length_table 64 _)
 
 pub slice_bounds-join-end-in-loop-a-2 : goal.slice_bounds-join-end-in-loop-a-2
-slice_bounds-join-end-in-loop-a-2 c = joined-row _ _ _ _ c.join.ensures refl
+slice_bounds-join-end-in-loop-a-2 c = joined_row _ _ _ _ c.join.ensures refl
 
 pub slice_bounds-join-end-in-loop-a-3 : goal.slice_bounds-join-end-in-loop-a-3
 slice_bounds-join-end-in-loop-a-3 c = sym (ap length c.loop-a.invariant.3 ∙ length_table 384 _)
 
 pub slice_bounds-join-end-in-loop-a-4 : goal.slice_bounds-join-end-in-loop-a-4
 slice_bounds-join-end-in-loop-a-4 c =
-    joined-row _ _ _ _ c.join-in-loop-a.ensures (joined-row _ _ _ _ c.join.ensures refl)
+    joined_row _ _ _ _ c.join-in-loop-a.ensures (joined_row _ _ _ _ c.join.ensures refl)
 
 pub slice_bounds-join-end-in-loop-a-5 : goal.slice_bounds-join-end-in-loop-a-5
 slice_bounds-join-end-in-loop-a-5 c =
-    joined-row _ _ _ _ c.join-in-loop-a.ensures (joined-row _ _ _ _ c.join.ensures refl)
+    joined_row _ _ _ _ c.join-in-loop-a.ensures (joined_row _ _ _ _ c.join.ensures refl)
 
 pub slice_bounds-join-end-in-loop-a-6 : goal.slice_bounds-join-end-in-loop-a-6
 slice_bounds-join-end-in-loop-a-6 c = sym (ap length c.single.ensures ∙ length_marked _ _ _ _)
@@ -53,16 +53,16 @@ slice_bounds-join-end-in-loop-a-7 c = sym (ap length c.loop-a.invariant.2 ∙ le
 
 pub slice_bounds-join-end-in-loop-a-8 : goal.slice_bounds-join-end-in-loop-a-8
 slice_bounds-join-end-in-loop-a-8 c =
-    joined-row _ _ _ _ c.join-in-loop-a-3.ensures
-    (joined-row _ _ _ _ c.join-in-loop-a.ensures (joined-row _ _ _ _ c.join.ensures refl))
+    joined_row _ _ _ _ c.join-in-loop-a-3.ensures
+    (joined_row _ _ _ _ c.join-in-loop-a.ensures (joined_row _ _ _ _ c.join.ensures refl))
 
 pub slice_bounds-join-end-in-loop-a-9 : goal.slice_bounds-join-end-in-loop-a-9
 slice_bounds-join-end-in-loop-a-9 c = sym (ap length c.loop-a.invariant.3 ∙ length_table 384 _)
 
 pub slice_bounds-join-end-in-loop-a-10 : goal.slice_bounds-join-end-in-loop-a-10
 slice_bounds-join-end-in-loop-a-10 c =
-    joined-row _ _ _ _ c.join-in-loop-a-3.ensures
-    (joined-row _ _ _ _ c.join-in-loop-a.ensures (joined-row _ _ _ _ c.join.ensures refl))
+    joined_row _ _ _ _ c.join-in-loop-a-3.ensures
+    (joined_row _ _ _ _ c.join-in-loop-a.ensures (joined_row _ _ _ _ c.join.ensures refl))
 
 pub loop-a-preserved : goal.loop-a-preserved
 loop-a-preserved c =

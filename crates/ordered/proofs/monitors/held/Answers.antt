@@ -16,20 +16,20 @@ use Rattle.ordered.specs.Monitors.{monitoring, counted}
 use Rattle.ordered.proofs.monitors.held.Goals as goal
 
 -- what counts is of a kind in the list
-of-kind : (s l p q r : Bool) → (s ≡ true → l ≡ true) → s && p && q && r ≡ l && (s && p && q && r)
-of-kind true l p q r f = rw (f refl)
-of-kind false l p q r f = sym (and-false l)
+of_kind : (s l p q r : Bool) → (s ≡ true → l ≡ true) → s && p && q && r ≡ l && (s && p && q && r)
+of_kind true l p q r f = rw (f refl)
+of_kind false l p q r f = sym (and-false l)
 
 -- the locks or the unlocks before a's place
-listed-monitored :
+listed_monitored :
     (x : List ℕ) (a : ℕ) (anyone : Bool) {v p t : ℕ} → v ≡ target x a → p ≡ place x a → t ≡ thread x a → {l : List ℕ} {m : ℕ} →
     Listed (monitoring x) (size x) l m → (k : ℕ) → ((n : ℕ) → eqb n k ≡ true → eqb n 5 || eqb n 6 ≡ true) →
     count m (λ i. counted x k v p anyone t (get_or l i 0)) ≡ monitored x a (λ s. anyone || eqb s (thread x a)) k
 unfolding monitored
-listed-monitored x a anyone {v} {p} {t} e q s {l} h k f =
+listed_monitored x a anyone {v} {p} {t} e q s {l} h k f =
     rw (← e, ← q, ← s)
     (sym
-    (count_same _ _ (size x) (λ b u. of-kind (eqb (kind x b) k) (monitoring x b) (eqb (target x b) v) (ltb (place x b) p) (anyone || eqb (thread x b) t) (f (kind x b)))
+    (count_same _ _ (size x) (λ b u. of_kind (eqb (kind x b) k) (monitoring x b) (eqb (target x b) v) (ltb (place x b) p) (anyone || eqb (thread x b) t) (f (kind x b)))
     ∙ count_listed (monitoring x) (counted x k v p anyone t) l h))
 
 pub loop-j-init : goal.loop-j-init
@@ -52,5 +52,5 @@ pub returns : goal.returns
 unfolding held
 returns c =
     let e : c.loop-j.j ≡ c.args.count = omega arith in
-    let all = listed-monitored c.args.x.now c.args.a c.args.anyone c.target-monitor.ensures c.place-place.ensures c.thread-thread.ensures c.requires in
+    let all = listed_monitored c.args.x.now c.args.a c.args.anyone c.target-monitor.ensures c.place-place.ensures c.thread-thread.ensures c.requires in
     rw (c.loop-j.invariant.3, c.loop-j.invariant.4, e, all 5 (λ n h. rw h), all 6 (λ n h. rw h (or-true (eqb n 5))))

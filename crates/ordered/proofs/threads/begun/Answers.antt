@@ -20,24 +20,24 @@ module _ (x : List ℕ) (a : ℕ) {v : ℕ} (own : v ≡ target x a) (small : v 
   first_found : get_or l v 0 ≡ found (size x) (λ b. eqb (thread x b) (target x a))
   first_found = rw (e, ← own) (first_entry x Thread v small)
 
-  begun-none : size x ≤ none → get_or l v 0 ≡ none → false ≡ begun x a
+  begun_none : size x ≤ none → get_or l v 0 ≡ none → false ≡ begun x a
   unfolding begun first_of
-  begun-none fits h = rw (found_nothing (λ b. eqb (thread x b) (target x a)) (size x) fits (sym first_found ∙ h))
+  begun_none fits h = rw (found_nothing (λ b. eqb (thread x b) (target x a)) (size x) fits (sym first_found ∙ h))
 
-  begun-at : (get_or l v 0 ≡ none → ⊥) → begun x a ≡ not (eqb (kind x (get_or l v 0)) 8 && ltb (place x a) (place x (get_or l v 0)))
+  begun_at : (get_or l v 0 ≡ none → ⊥) → begun x a ≡ not (eqb (kind x (get_or l v 0)) 8 && ltb (place x a) (place x (get_or l v 0)))
   unfolding begun first_of
-  begun-at h =
+  begun_at h =
       let (same, some) = found_something (λ b. eqb (thread x b) (target x a)) (size x) (λ z. h (first_found ∙ z)) in
       rw (some, same, ← first_found)
 
 pub returns-then-b : goal.returns-then-b
 returns-then-b c =
-    begun-none c.args.x.now c.args.a c.target.ensures (omega arith) c.requires.first_value (omega arith) c.if-b.true
+    begun_none c.args.x.now c.args.a c.target.ensures (omega arith) c.requires.first_value (omega arith) c.if-b.true
 
 pub returns-then-kind-ne-FIRST : goal.returns-then-kind-ne-FIRST
 returns-then-kind-ne-FIRST c =
-    rw (begun-at c.args.x.now c.args.a c.target.ensures (omega arith) c.requires.first_value c.if-b.false) (search ways)
+    rw (begun_at c.args.x.now c.args.a c.target.ensures (omega arith) c.requires.first_value c.if-b.false) (search ways)
 
 pub returns : goal.returns
 returns c =
-    rw (begun-at c.args.x.now c.args.a c.target.ensures (omega arith) c.requires.first_value c.if-b.false) (search ways)
+    rw (begun_at c.args.x.now c.args.a c.target.ensures (omega arith) c.requires.first_value c.if-b.false) (search ways)

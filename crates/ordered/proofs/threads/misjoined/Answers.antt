@@ -16,15 +16,15 @@ use Rattle.ordered.specs.Threads.{ending}
 use Rattle.ordered.proofs.threads.misjoined.Goals as goal
 use Rattle.ordered.proofs.threads.misjoined.Goals.{then-thread-target+else-place, else-thread-target}
 
-listed-ends : (x : List ℕ) (a : ℕ) {l : List ℕ} {m : ℕ} → Listed (ending x) (size x) l m → misjoined x a ≡ not (any m (λ i. ended x a (get_or l i 0)))
+listed_ends : (x : List ℕ) (a : ℕ) {l : List ℕ} {m : ℕ} → Listed (ending x) (size x) l m → misjoined x a ≡ not (any m (λ i. ended x a (get_or l i 0)))
 unfolding misjoined
-listed-ends x a {l} h = ap not (any_listed (ending x) (ended x a) l h)
+listed_ends x a {l} h = ap not (any_listed (ending x) (ended x a) l h)
 
 pub returns-then-place : goal.returns-then-place
 unfolding ended
 returns-then-place c =
     sym
-    (listed-ends c.args.x.now c.args.a c.requires
+    (listed_ends c.args.x.now c.args.a c.requires
     ∙ ap not
     (any_at _ _ c.loop-j.j (omega arith)
     (rw (
@@ -51,7 +51,7 @@ loop-j-preserved c =
 pub returns : goal.returns
 returns c =
     let e : c.loop-j.j ≡ c.args.count = omega arith in
-    sym (listed-ends c.args.x.now c.args.a c.requires ∙ ap not (rw e at c.loop-j.invariant.1))
+    sym (listed_ends c.args.x.now c.args.a c.requires ∙ ap not (rw e at c.loop-j.invariant.1))
 
 pub loop-j-init : goal.loop-j-init
 loop-j-init c = (omega arith, any_none _)

@@ -1,65 +1,97 @@
 // Judges the record on standard input: a line for each question, and the list after order's 0.
 #![tactic(auto)]
 
-use libc::{STDIN_FILENO, STDOUT_FILENO};
+ghost use Rattle.std.specs.Prelude.{◌≡◌, ◌+◌, ◌<◌, ◌≤◌, length, take, drop, IfOk};
+ghost use Rattle.std.specs.Io.KnownBytes.{Consumes, IsAtEnd};
+
 use model::{Answer, MAX_ACTIONS, MAX_BYTES, MAX_WORDS, PART_WORDS};
+use std::io;
+use std::io::Read;
 
 // One byte more than the longest record, so that a longer one is seen to be too long.
 const MAX_READ: usize = MAX_BYTES + 1;
 
-fn number(n: u64) {
-    io::write_all(STDOUT_FILENO, b" ");
-    io::print_decimal(STDOUT_FILENO, n);
+fn number(rt: &impl Print, n: u64) -> io::Result<()> {
+    print!(rt; " {n}")
 }
 
-fn answer(question: &[u8], r: Answer) {
-    io::write_all(STDOUT_FILENO, question);
-    number(r.n as u64);
-    number(r.s as u64);
-    position(r.a);
-    position(r.b);
+fn answer(rt: &impl Print, question: &str, r: Answer) -> io::Result<()> {
+    print!(rt; "{question}")?;
+    number(rt, r.n as u64)?;
+    number(rt, r.s as u64)?;
+    position(rt, r.a)?;
+    position(rt, r.b)
 }
 
-fn position(p: u16) {
-    number(p as u64);
+fn position(rt: &impl Print, p: u16) -> io::Result<()> {
+    number(rt, p as u64)
 }
 
 // The count of section 0, then that many entries of the list.
-fn positions(record: &[u8], list: &[u16]) {
+fn positions(rt: &impl Print, record: &[u8], list: &[u16]) -> io::Result<()> {
     let x = record::bounds(record, 0);
     let at = x.at;
     let end = x.end;
     let n = fields::size(&record[at..end]) as usize;
-    number(n as u64);
+    number(rt, n as u64)?;
     for i in 0..n {
         if i < list.len() {
-            position(list[i]);
+            position(rt, list[i])?;
         }
     }
+    Ok(())
 }
 
-fn order(record: &[u8]) {
+fn order(rt: &impl Print, record: &[u8]) -> io::Result<()> {
     let mut work = [0u64; PART_WORDS];
     let mut list = [0u16; MAX_ACTIONS];
     let r = jmm::order(record, &mut work, &mut list);
-    answer(b"order", r);
+    answer(rt, "order", r)?;
     if r.n == 0 {
-        positions(record, &list);
+        positions(rt, record, &list)?;
     }
-    io::write_all(STDOUT_FILENO, b"\n");
+    println!(rt; "")
 }
 
-fn questions(record: &[u8]) {
+fn questions(rt: &impl Print, record: &[u8]) -> io::Result<()> {
     let mut work = [0u64; MAX_WORDS];
-    answer(b"verdict", jmm::verdict(record, &mut work));
-    io::write_all(STDOUT_FILENO, b"\n");
-    answer(b"race", jmm::race(record, &mut work));
-    io::write_all(STDOUT_FILENO, b"\n");
-    order(record);
+    answer(rt, "verdict", jmm::verdict(record, &mut work))?;
+    println!(rt; "")?;
+    answer(rt, "race", jmm::race(record, &mut work))?;
+    println!(rt; "")?;
+    order(rt, record)
 }
 
-fn main() {
+// One read, to behind the first n bytes.
+fn read_behind<R: Read>(input: &mut R, bytes: &mut [u8], n: usize) -> io::Result<usize>
+    requires { n < length bytes.old }
+    ensures front { take n bytes.new ≡ take n bytes.old }
+    ensures fits { IfOk result (λ more. n + more ≤ length bytes.new) }
+    ensures read { IfOk result (λ more. Consumes (R.remaining input.old) (R.remaining input.new) (take more (drop n bytes.new))) }
+    ensures end { IfOk result (λ more. more ≡ 0 → IsAtEnd (R.remaining input.new)) }
+{
+    input.read(&mut bytes[n..])
+}
+
+// Reads until `bytes` is full or the input ends: how many bytes of it are read.
+fn read_full<R: Read>(input: &mut R, bytes: &mut [u8]) -> io::Result<usize>
+    ensures fits { IfOk result (λ n. n ≤ length bytes.new) }
+    ensures read { IfOk result (λ n. Consumes (R.remaining input.old) (R.remaining input.new) (take n bytes.new)) }
+    ensures all { IfOk result (λ n. n < length bytes.new → IsAtEnd (R.remaining input.new)) }
+{
+    let mut n = 0;
+    while n < bytes.len() {
+        let more = read_behind(input, bytes, n)?;
+        if more == 0 {
+            break;
+        }
+        n += more;
+    }
+    Ok(n)
+}
+
+fn main(rt: HostRuntime) -> io::Result<()> {
     let mut record = [0u8; MAX_READ];
-    let n = io::read_full(STDIN_FILENO, &mut record);
-    questions(&record[..n]);
+    let n = read_full(&mut rt.stdin(), &mut record)?;
+    questions(&rt, &record[..n])
 }

@@ -1,8 +1,8 @@
 /*
  * The program against right answers: program VECTORS COUNT COMMAND...
  *
- * Runs the command, which is jxe or an emulator and jxe, once for each vector and each of COUNT generated records, with
- * the record on its standard input, and compares all that it prints; it must end with status 0. A record that is too long
+ * Runs the command, which is jxe, once for each vector and each of COUNT generated records, with the record on its
+ * standard input, and compares all that it prints; it must end with status 0. A record that is too long
  * goes in whole. Every number that the program can print must be reached. The last line is `N passed, M failed`.
  */
 #define _POSIX_C_SOURCE 200809L

@@ -1,4 +1,5 @@
-/* The calls of liblent.a: the three questions, where the caller lends the words and the list. Answers are as in jxe.h. */
+/* The calls of liblent.a, which ./staticlib makes beside libjmm.a: the three questions, where the caller lends the words
+ * and the list. Answers are as in jxe.h. */
 #ifndef DULQIMES_LENT_H
 #define DULQIMES_LENT_H
 

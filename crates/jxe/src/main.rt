@@ -30,14 +30,10 @@ fn position(rt: &impl Print, p: u16) -> io::Result<()> {
 // The count of section 0, then that many entries of the list.
 fn positions(rt: &impl Print, record: &[u8], list: &[u16]) -> io::Result<()> {
     let x = record::bounds(record, 0);
-    let at = x.at;
-    let end = x.end;
-    let n = fields::size(&record[at..end]) as usize;
+    let n = fields::size(&record[x.at..x.end]);
     number(rt, n as u64)?;
-    for i in 0..n {
-        if i < list.len() {
-            position(rt, list[i])?;
-        }
+    for p in list.iter().take(n as usize) {
+        position(rt, *p)?;
     }
     Ok(())
 }

@@ -1,8 +1,8 @@
 /* The host's two calls on a record of Dulqimes, and how to read their answer.
  *
  * Link with libjmm.a, which ./staticlib makes in target/staticlib. The library keeps nothing between calls, writes
- * nothing but its own stack (as measured by bench/stack: 30 KB for jxe_verdict, 11 KB for jxe_race) and accepts any
- * bytes of any length.
+ * nothing but its own stack (30 KB for jxe_verdict, 11 KB for jxe_race, as bench/stack measured with the Rattle before
+ * this one) and accepts any bytes of any length.
  *
  * An answer is N + 2^8 S + 2^16 A + 2^32 B: a number, a section and two positions. S is 0 where no section is
  * named, A and B are JXE_NONE where no position is.

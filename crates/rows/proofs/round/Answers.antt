@@ -1,6 +1,7 @@
 -- `rows::round` meets its contract. The loop's invariant: the rows before `a` are through round k. The words, being lent ones, have 64 bits, so those bits settle them.
 use mathlib.Core.Path.{◌≡◌, sym}
 use native.Mathlib.Omega.{arith}
+use borrow.Author.Rules.{rules}
 use lib.Dec.{lit<}
 use Rattle.model.proofs.Words.{bit_in}
 use Rattle.rows.proofs.Rounds.{round_none, round_more}
@@ -17,7 +18,7 @@ pub returns-then-n-part : goal.returns-then-n-part
 returns-then-n-part c = sym (rounded_past _ _ _ _ c.if-n-part.true)
 
 pub loop-a-init : goal.loop-a-init
-loop-a-init c = (omega arith, λ i. (c.slice_known-1.given i).fits, round_none _ _ _)
+loop-a-init c = (omega arith, search rules, round_none _ _ _)
 
 pub bounds-part-a : goal.bounds-part-a
 bounds-part-a c = omega (arith, c.loop-a.invariant.2.long)

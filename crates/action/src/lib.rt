@@ -7,95 +7,68 @@ ghost use Rattle.std.specs.Bool.{beq};
 ghost use Rattle.model.specs.Layout.{volatile};
 ghost use Rattle.model.specs.Refused.{targeted, committed_in, carried, fielded};
 
-use model::{Action, Header, Kind};
+use model::{Action, Header, KindRow, Target};
+use table::row_of;
 
 // Bit t of the map, which has none from the most variables on.
 fn volatile(h: Header, t: u8) -> bool
     ensures { result ≡ volatile h t }
 {
-    if t as usize >= model::MAX_VARIABLES {
-        return false;
-    }
-    (h.map >> t) % 2 == 1
+    (t as usize) < model::MAX_VARIABLES && (h.map >> t) % 2 == 1
 }
 
 // A variable that is volatile exactly when it has to be.
 fn variable(h: Header, t: u8, wanted: bool) -> bool
     ensures { result ≡ ltb t h.variables && beq (volatile h t) wanted }
 {
-    if t >= h.variables {
-        return false;
-    }
-    volatile(h, t) == wanted
+    t < h.variables && volatile(h, t) == wanted
 }
 
 // Target t of a kind's row k.
-fn targeted(h: Header, k: Kind, t: u8) -> bool
+#[tactic(auto, unfolding(model::specs::Refused::targeted))]
+fn targeted(h: Header, k: KindRow, t: u8) -> bool
     ensures { result ≡ targeted h k t }
 {
-    let class = k.target;
-    match class {
-        model::VARIABLE => variable(h, t, k.volatile),
-        model::MONITOR => t < h.monitors,
-        model::THREAD => t < h.threads,
-        model::ZERO => t == 0,
-        model::ANY => true,
-        _ => false,
+    match k.target {
+        Target::NoKind => false,
+        Target::Variable => variable(h, t, k.volatile),
+        Target::Monitor => t < h.monitors,
+        Target::Thread => t < h.threads,
+        Target::Zero => t == 0,
+        Target::Any => true,
     }
 }
 
 // Commit number c of an action of section s: "section 0: 1 to K, or 0 when K is 0; other sections: 0".
+#[tactic(auto, unfolding(model::specs::Refused::committed_in))]
 fn committed_in(last: u8, s: u8, c: u8) -> bool
     ensures { result ≡ committed_in last s c }
 {
-    if s != 0 {
-        return c == 0;
+    if s == 0 {
+        last.min(1) <= c && c <= last
+    } else {
+        c == 0
     }
-    if c > last {
-        return false;
-    }
-    if last == 0 {
-        return true;
-    }
-    c >= 1
 }
 
 // What an action of a kind's row k carries: the write seen in a read alone, the value in a read or a write.
-fn carried(k: Kind, a: Action) -> bool
+#[tactic(auto, unfolding(model::specs::Refused::carried))]
+fn carried(k: KindRow, a: Action) -> bool
     ensures { result ≡ carried k a }
 {
-    if k.read {
-        return true;
-    }
-    if a.seen != 0 {
-        return false;
-    }
-    if k.write {
-        return true;
-    }
-    a.value == 0
+    (k.read || a.seen == 0) && (k.read || k.write || a.value == 0)
 }
 
 // The fields of an action of section s are as the two tables say.
+#[tactic(auto, unfolding(model::specs::Refused::fielded))]
 pub fn fielded(h: Header, s: u8, a: Action) -> bool
     ensures { result ≡ fielded h s a }
 {
-    if a.ident == 0 {
-        return false;
-    }
-    if a.thread >= h.threads {
-        return false;
-    }
-    let k = table::row_of(a.kind);
-    if !targeted(h, k, a.target) {
-        return false;
-    }
-    if !committed_in(h.justifying, s, a.commit) {
-        return false;
-    }
-    let placed = a.place != 0;
-    if k.sync != placed {
-        return false;
-    }
-    carried(k, a)
+    let k = row_of(a.kind);
+    a.ident != 0
+        && a.thread < h.threads
+        && targeted(h, k, a.target)
+        && committed_in(h.justifying, s, a.commit)
+        && k.sync == (a.place != 0)
+        && carried(k, a)
 }

@@ -3,7 +3,7 @@
 
 ghost use Rattle.std.specs.Prelude.{◌≡◌};
 ghost use Rattle.model.specs.Search.{none};
-ghost use Rattle.model.specs.Answers.{answer, naming};
+ghost use Rattle.model.specs.Answers.{answer, answered, named, named₂};
 
 use model::Answer;
 
@@ -22,12 +22,32 @@ pub fn numbered(n: u8, s: u8) -> Answer
     }
 }
 
-// Number n and section s, naming positions a and b, unless a is none: nothing is broken then.
-pub fn naming(n: u8, s: u8, a: u16, b: u16) -> Answer
-    ensures { result ≡ naming n s a b }
+// Number n and section s, naming the position a; nothing is broken where there is none.
+pub fn rule(n: u8, s: u8, a: Option<u16>) -> Result<(), Answer>
+    ensures { result ≡ named n s a }
 {
-    if a == NONE {
-        return numbered(0, 0);
+    match a {
+        Some(a) => Err(Answer { n, s, a, b: NONE }),
+        None => Ok(()),
     }
-    Answer { n, s, a, b }
+}
+
+// The same, naming two positions.
+pub fn rule_of_pair(n: u8, s: u8, pair: Option<(u16, u16)>) -> Result<(), Answer>
+    ensures { result ≡ named₂ n s pair }
+{
+    match pair {
+        Some((a, b)) => Err(Answer { n, s, a, b }),
+        None => Ok(()),
+    }
+}
+
+// What a row of checks comes to.
+pub fn answered(r: Result<(), Answer>) -> Answer
+    ensures { result ≡ answered r }
+{
+    match r {
+        Ok(()) => numbered(0, 0),
+        Err(answer) => answer,
+    }
 }

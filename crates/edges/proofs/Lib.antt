@@ -1,3 +1,3 @@
 -- The laws of edges.
-pub mod Edge
+pub mod Own
 pub mod Unique

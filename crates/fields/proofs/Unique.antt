@@ -13,6 +13,7 @@ use Rattle.fields.proofs.ident.Reads as ident
 use Rattle.fields.proofs.thread.Reads as thread
 use Rattle.fields.proofs.kind.Reads as kind
 use Rattle.fields.proofs.target.Reads as target
+use Rattle.fields.proofs.own_or_target.Reads as own_or_target
 use Rattle.fields.proofs.commit.Reads as commit
 use Rattle.fields.proofs.place.Reads as place
 use Rattle.fields.proofs.seen.Reads as seen
@@ -55,6 +56,9 @@ kind_unique κs x r q s t e f = e ∙ sym f
 
 pub target_unique : Settles target.Post (λ κs r s. r)
 target_unique κs x r q s t e f = e ∙ sym f
+
+pub own_or_target_unique : Settles own_or_target.Post (λ κs r s. r)
+own_or_target_unique κs x r q s t e f = e ∙ sym f
 
 pub commit_unique : Settles commit.Post (λ κs r s. r)
 commit_unique κs x r q s t e f = e ∙ sym f

@@ -1,9 +1,7 @@
 // The fields of a record and of a section, read from their bytes in place. A byte past the end reads as 0, so every accessor takes every input.
 #![tactic(auto)]
 
-ghost use Rattle.std.specs.Prelude.{◌≡◌, ◌+◌, ◌*◌, ◌<◌};
-ghost use Rattle.std.specs.Int.{w64};
-ghost use Rattle.std.proofs.Common.{to_z};
+ghost use Rattle.std.specs.Prelude.{◌≡◌, ◌<◌, cond};
 ghost use Rattle.model.specs.Layout.{byte, two, eight, version, threads, variables, monitors, K, header, size, ident, thread, kind, target, commit, place, seen, unused, value, action};
 
 use model::{Action, Header};
@@ -14,14 +12,7 @@ pub const MARK: [u8; 3] = [74, 88, 69];
 pub fn byte(r: &[u8], i: u32) -> u8
     ensures { result ≡ byte r.now i }
 {
-    let at = i as usize;
-    if at < r.len() { r[at] } else { 0 }
-}
-
-fn joined(low: u8, high: u8) -> u16
-    ensures { result ≡ low + 256 * high }
-{
-    low as u16 + 256 * (high as u16)
+    r.get(i as usize).copied().unwrap_or(0)
 }
 
 // Where both bytes are there, one test and one load.
@@ -31,9 +22,9 @@ fn two(r: &[u8], i: u32) -> u16
 {
     let at = i as usize;
     if at + 1 < r.len() {
-        joined(r[at], r[at + 1])
+        u16::from_le_bytes([r[at], r[at + 1]])
     } else {
-        joined(byte(r, i), byte(r, i + 1))
+        u16::from_le_bytes([byte(r, i), byte(r, i + 1)])
     }
 }
 
@@ -122,6 +113,14 @@ pub fn target(x: &[u8], a: u16) -> u8
     byte(x, 2 + 20 * (a as u32) + 4)
 }
 
+// The thread where `own`, else the target: which of the two bytes is loaded is computed, and no way is taken by it.
+pub fn own_or_target(x: &[u8], a: u16, own: bool) -> u8
+    ensures { result ≡ cond own (thread x.now a) (target x.now a) }
+{
+    let at = if own { 2 } else { 4 };
+    byte(x, 2 + 20 * (a as u32) + at)
+}
+
 pub fn commit(x: &[u8], a: u16) -> u8
     ensures { result ≡ commit x.now a }
 {
@@ -146,20 +145,11 @@ pub fn unused(x: &[u8], a: u16) -> u16
     two(x, 2 + 20 * (a as u32) + 10)
 }
 
-fn signed(v: u64) -> i64
-    ensures { result ≡ to_z w64 v }
-{
-    if v < 0x8000_0000_0000_0000 {
-        v as i64
-    } else {
-        -1 - ((0xffff_ffff_ffff_ffff - v) as i64)
-    }
-}
-
+#[tactic(auto, unfolding(model::specs::Layout::value))]
 pub fn value(x: &[u8], a: u16) -> i64
     ensures { result ≡ value x.now a }
 {
-    signed(eight(x, 2 + 20 * (a as u32) + 12))
+    eight(x, 2 + 20 * (a as u32) + 12).cast_signed()
 }
 
 pub fn action(x: &[u8], a: u16) -> Action

@@ -6,9 +6,12 @@ use mathlib.Core.Path.{◌≡◌, refl, sym, ap, ◌∙◌}
 use mathlib.Core.List.{List}
 use mathlib.Core.Bool.{Bool, true, false, not, ◌&&◌, ◌||◌, or-true, or-false, and-false, and-eq-true_iff}
 use mathlib.Core.Logic.{◌⊎◌, inl, inr, ⊎_elim}
-use lib.ListN.{length}
+use lib.ListN.{length, get_or, take}
+use lib.Seq.{take_all}
+use native.Mathlib.Numerals.{add-one}
 use lib.Dec.{eqb, ltb, leb}
 use borrow.Author.Tests.{lt-ltb, le-leb, lt-leb, eq-eqb, ne_eqb, eqb-true, ltb-true, leb-true}
+use Rattle.std.proofs.lemmas.List.Sums.{fold_more}
 use Rattle.model.specs.Limits.{max_actions, part_words}
 use Rattle.model.specs.Search.{any}
 use Rattle.model.specs.Layout.{size, thread}
@@ -19,14 +22,14 @@ use Rattle.model.proofs.Search.{any_at, any_elim}
 use Rattle.model.proofs.Closure.{Path⁺, one, join, via, Through, via_within, via_reach, edge_within}
 use Rattle.rows.specs.Part.{rounded, table}
 use Rattle.rows.proofs.Part.{table_same, table_rounded}
-use Rattle.positions.specs.Lists.{takers, listed, Listed}
-use Rattle.positions.specs.declared.lists.Positions.{Positions}
+use Rattle.positions.specs.Lists.{positions, takers, listed}
 use Rattle.positions.proofs.Sets.{are_takers}
-use Rattle.positions.proofs.Listing.{listed_at, listed_has, is_listed}
+use Rattle.positions.proofs.Listing.{positions_at, is_listed}
 use Rattle.lined.specs.Line.{unfit, late, lined, lined_part}
 use Rattle.hb.specs.Passing.{receives, hands, leads}
-use Rattle.hb.specs.Edges.{entry, rounds, happens}
+use Rattle.hb.specs.Edges.{rounds, happens}
 use Rattle.hb.proofs.Hands.{hands_to}
+use Rattle.hb.proofs.Entries.{positions_has}
 
 module _ (x : List ℕ) where
   abbrev n : ℕ
@@ -108,33 +111,45 @@ module _ (x : List ℕ) where
       (λ w. hands_in c (thread x c) b w (λ d l m v e. rw (hands_out a (thread x a) b d l (omega arith) (u ∙ v) e) (or-true (po x a b))))
       (either (po x c b) (hands x n c (thread x c) b) t))
 
-  module _ (at : List ℕ) (m : ℕ) (few : n ≤ max_actions) (list : Listed (receives x) n at m) where
-    cover : (c : ℕ) → c < n → (any m (λ i. eqb c (entry at i)) ≡ true) ⊎ Through led c
-    cover c h = by (receives x c) refl
-      where
-        by : (t : Bool) → receives x c ≡ t → (any m (λ i. eqb c (entry at i)) ≡ true) ⊎ Through led c
-        by true s = inl (listed_has list c ∙ rw (s, lt-ltb c n h))
-        by false s = inr (through c s)
+  -- the positions that receive
+  abbrev list : List ℕ
+  list = positions (receives x) n
 
-    within : (a b : ℕ) → led a b ≡ true → (a < n) × (b < n)
-    within a b h = let (p, q, _) = led_in a b h in (p, q)
+  abbrev at : ℕ → ℕ
+  at i = get_or list i 0
 
-    rounds_rows : (i : ℕ) → i ≤ m → rounds n at i (table max_actions led) ≡ table max_actions (via led (entry at) i)
-    unfolding rounds via
+  cover : (c : ℕ) → c < n → (any (length list) (λ i. eqb c (at i)) ≡ true) ⊎ Through led c
+  cover c h = by (receives x c) refl
+    where
+      by : (t : Bool) → receives x c ≡ t → (any (length list) (λ i. eqb c (at i)) ≡ true) ⊎ Through led c
+      by true s =
+          let (i, l, e) = positions_has (receives x) n c h s in
+          inl (any_at (λ i. eqb c (at i)) (length list) i l (eq-eqb c (at i) (sym e)))
+      by false s = inr (through c s)
+
+  within : (a b : ℕ) → led a b ≡ true → (a < n) × (b < n)
+  within a b h = let (p, q, _) = led_in a b h in (p, q)
+
+  module _ (few : n ≤ max_actions) where
+    rounds_rows : (i : ℕ) → i ≤ length list → rounds n (take i list) (table max_actions led) ≡ table max_actions (via led at i)
+    unfolding via
     rounds_rows zero h = refl
     rounds_rows (suc i) h =
-        ap (λ (ws : List ℕ). rounded ws n (entry at i)) (rounds_rows i (omega arith))
-        ∙ table_rounded max_actions (via led (entry at) i) n (entry at i) few few (via_within led (entry at) n within i)
-        (listed_at list i (omega arith)).0
+        one_more i (omega arith) ∙ ap (λ (ws : List ℕ). rounded ws n (at i)) (rounds_rows i (omega arith))
+        ∙ table_rounded max_actions (via led at i) n (at i) few few (via_within led at n within i) (positions_at (receives x) (receives x) n i (omega arith)).0
+      where
+        one_more : (i : ℕ) → i < length list → rounds n (take (suc i) list) (table max_actions led) ≡ rounded (rounds n (take i list) (table max_actions led)) n (at i)
+        one_more i l = rw (← (add-one i)) (fold_more (λ ws k. rounded ws n k) (table max_actions led) list i 0 l)
 
-    rounds_part : rounds n at m (table max_actions led) ≡ part x
+    rounds_part : rounds n list (table max_actions led) ≡ part x
     unfolding part hb
     rounds_part =
-        rounds_rows m (omega arith)
-        ∙ table_same max_actions _ (reach (edge x) n) (via_reach (edge x) led n within edge_led led_edges (entry at) m cover)
+        ap (λ (l : List ℕ). rounds n l (table max_actions led)) (sym (take_all (length list) list (omega arith)))
+        ∙ rounds_rows (length list) (omega arith)
+        ∙ table_same max_actions _ (reach (edge x) n) (via_reach (edge x) led n within edge_led led_edges at (length list) cover)
 
 -- the list of those that receive
-pub receivers : (x : List ℕ) {k : ℕ} {p : Positions} → k ≡ size x → k ≤ max_actions → p ≡ listed x takers → Listed (receives x) k p.at p.count
+pub receivers : (x : List ℕ) {k : ℕ} {list : List ℕ} → k ≡ size x → k ≤ max_actions → list ≡ listed x takers → list ≡ positions (receives x) k
 receivers x e h l = rw (l, e) (is_listed x takers (are_takers x) (omega arith))
 
 module _ (x ws : List ℕ) where
@@ -144,10 +159,10 @@ module _ (x ws : List ℕ) where
 
   -- the three steps
   pub happens_by :
-      {k m : ℕ} {at us vs : List ℕ} → length ws ≡ part_words → k ≡ size x → k ≤ max_actions → Listed (receives x) k at m →
-      us ≡ table max_actions (leads x k 0) → vs ≡ rounds k at m us → vs ≡ happens x ws
-  happens_by {k} {m} {at} l e h list swept closing =
-      rw (closing, swept, e) (rounds_part x at m (omega arith) (rw e at list) ∙ sym (happens_part l (omega arith)))
+      {k : ℕ} {list us vs : List ℕ} → length ws ≡ part_words → k ≡ size x → k ≤ max_actions → list ≡ positions (receives x) k →
+      us ≡ table max_actions (leads x k 0) → vs ≡ rounds k list us → vs ≡ happens x ws
+  happens_by {k} l e h all swept closing =
+      rw (closing, swept, all, e) (rounds_part x (omega arith) ∙ sym (happens_part l (omega arith)))
 
   pub happens_other : (length ws ≡ part_words → ⊥) → happens x ws ≡ ws
   unfolding happens

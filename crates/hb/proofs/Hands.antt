@@ -1,11 +1,12 @@
 -- What the passed actions of a thread synchronize with.
 use Prim.Native.Nat.{ℕ, ◌+◌, ◌<◌}
-use mathlib.Core.Path.{◌≡◌, refl, sym, ◌∙◌}
+use mathlib.Core.Path.{◌≡◌, ◌∙◌}
 use mathlib.Core.List.{List}
-use mathlib.Core.Bool.{Bool, true, false, ◌&&◌, ◌||◌, and-false}
+use mathlib.Core.Bool.{false, ◌&&◌, ◌||◌, and-false}
 use lib.Dec.{eqb}
-use borrow.Author.Tests.{lt-ltb, lt-leb, eqb-true, not-false}
-use Rattle.model.specs.Kinds.{nothing_taken}
+use borrow.Author.Tests.{lt-ltb, lt-leb, not-false, eqb-true}
+use Rattle.model.specs.declared.Class.TheVariants as class
+use Rattle.model.specs.Kinds.{number_of}
 use Rattle.model.specs.Layout.{thread, row}
 use Rattle.model.specs.Relations.{sw}
 use Rattle.model.proofs.Search.{any_never, any_from}
@@ -15,17 +16,10 @@ use Rattle.hb.specs.Passing.{receives, hands}
 
 -- nothing synchronizes with what does not receive
 module _ (x : List ℕ) (a b : ℕ) where
-  unreceived : receives x b ≡ false → sw x a b ≡ false
+  pub unreceived : receives x b ≡ false → sw x a b ≡ false
   unfolding taken
   unreceived s =
-      sw_nothing_taken x a b (eqb-true (row x b).takes.class nothing_taken (not-false (eqb (row x b).takes.class nothing_taken) s))
-
-  pub sw_received : (receives x b && sw x a b) ≡ sw x a b
-  sw_received = by (receives x b) refl
-    where
-      by : (t : Bool) → receives x b ≡ t → (t && sw x a b) ≡ sw x a b
-      by true e = refl
-      by false e = sym (unreceived e)
+      sw_nothing_taken x a b (eqb-true (number_of (row x b).takes.class) (number_of class.NothingTaken) (not-false _ s))
 
 module _ (x : List ℕ) (n : ℕ) where
   pub hands_none : (t b : ℕ) → hands x n n t b ≡ false

@@ -13,11 +13,11 @@ use Rattle.model.specs.Layout.{thread}
 use Rattle.model.specs.Relations.{po, sw}
 use Rattle.rows.specs.Part.{marked, joined, table}
 use Rattle.rows.proofs.Part.{table_same, table_cleared, table_marked, table_joined}
-use Rattle.positions.specs.Lists.{Listed}
+use Rattle.positions.specs.Lists.{positions}
 use Rattle.hb.specs.Passing.{receives, hands, passed, leads}
 use Rattle.hb.specs.Edges.{from}
 use Rattle.hb.proofs.Hands.{hands_none, hands_more}
-use Rattle.hb.proofs.Marked.{from_listed}
+use Rattle.hb.proofs.Marks.{from_rows}
 
 module _ (x : List ℕ) (n : ℕ) where
   -- nothing is passed
@@ -113,12 +113,12 @@ module _ (x : List ℕ) (n : ℕ) where
 
     module _ (later : List ℕ) (by_thread : later ≡ table 256 (passed x n s)) (byte : t < 256) (few : n ≤ max_actions) where
       pub sweep_more :
-          {at : List ℕ} {m : ℕ} → Listed (receives x) n at m → {part us vs : List ℕ} → part ≡ table max_actions (leads x n s) → us ≡ joined part a later t → vs ≡ from x at a m us →
+          {list : List ℕ} → list ≡ positions (receives x) n → {part us vs : List ℕ} → part ≡ table max_actions (leads x n s) → us ≡ joined part a later t → vs ≡ from x a list us →
           vs ≡ table max_actions (leads x n a)
-      sweep_more {at} {m} list h j f =
-          rw (f, j, h, by_thread)
-          (ap (from x at a m) (table_joined max_actions (leads x n s) a 256 (passed x n s) t (omega arith) byte)
-          ∙ from_listed x n at m list a _ ∙ table_same max_actions _ (leads x n a) row)
+      sweep_more all h j f =
+          rw (f, all, j, h, by_thread)
+          (ap (from x a (positions (receives x) n)) (table_joined max_actions (leads x n s) a 256 (passed x n s) t (omega arith) byte)
+          ∙ from_rows x a n _ ∙ table_same max_actions _ (leads x n a) row)
 
       pub later_more :
           {part us : List ℕ} → part ≡ table max_actions (leads x n a) → us ≡ joined later t part a → marked us t a ≡ table 256 (passed x n a)

@@ -1,13 +1,14 @@
 -- What the rows hold while the actions are passed from the last to the first: those from position s on are passed, of n.
 use Rattle.std.specs.Prelude.{ℕ, List, Bool, not, ◌&&◌, ◌||◌, eqb, ltb, leb}
 use Rattle.model.specs.Search.{any}
-use Rattle.model.specs.Kinds.{nothing_taken}
+use Rattle.model.specs.declared.Class.TheVariants.{NothingTaken}
+use Rattle.model.specs.Kinds.{same_class}
 use Rattle.model.specs.Layout.{thread, row}
 use Rattle.model.specs.Relations.{po, sw}
 
 -- others synchronize with b, by what its kind takes
 abbrev pub receives : List ℕ → ℕ → Bool
-receives x b = not (eqb (row x b).takes.class nothing_taken)
+receives x b = not (same_class (row x b).takes.class NothingTaken)
 
 -- a passed action of thread t synchronizes with b
 unfoldable pub hands : List ℕ → ℕ → ℕ → ℕ → ℕ → Bool

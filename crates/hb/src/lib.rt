@@ -4,12 +4,12 @@
 ghost use Rattle.std.specs.Prelude.{◌≡◌, ◌≤◌, length};
 ghost use Rattle.model.specs.Limits.{max_actions, part_words};
 ghost use Rattle.rows.specs.Part.{table};
-ghost use Rattle.positions.specs.Lists.{Listed};
+ghost use Rattle.positions.specs.Lists.{positions};
 ghost use Rattle.hb.specs.Edges.{from, rounds, happens};
 ghost use Rattle.hb.specs.Passing.{receives, leads};
 
 use fields::{size, thread};
-use model::{MAX_ACTIONS, PART_WORDS, ROW_WORDS};
+use model::{Class, MAX_ACTIONS, PART_WORDS, ROW_WORDS};
 use positions::lists::{TAKERS, listed};
 use relations::{accepts, offered};
 
@@ -17,49 +17,44 @@ use relations::{accepts, offered};
 const THREAD_ROWS: usize = 256 * ROW_WORDS;
 
 // The edges by which a synchronizes with those of the list.
-fn edges_from(x: &[u8], part: &mut [u64], at: &[u16; MAX_ACTIONS], m: u16, a: u16)
-    requires { m ≤ max_actions }
-    ensures { part.new ≡ from x.now at.now a m part.old }
+fn edges_from(x: &[u8], part: &mut [u64], a: u16, takers: &[u16])
+    ensures { part.new ≡ from x.now a takers.now part.old }
 {
     let w = offered(x, a);
-    if w.class == model::NOTHING_GIVEN {
+    if w.object.class == Class::NothingGiven as u8 {
         return;
     }
-    for j in 0..m {
-        let b = at[j as usize];
-        if accepts(x, w, b) {
-            rows::set(part, a, b);
+    for b in takers {
+        if accepts(x, w, *b) {
+            rows::set(part, a, *b);
         }
     }
 }
 
 // One sweep from the last action to the first. Row a gets the later actions of its thread, what those synchronize with, and what a synchronizes with: `later` has a row of this for each thread.
-fn sweep(x: &[u8], part: &mut [u64], n: u16, at: &[u16; MAX_ACTIONS], m: u16)
+fn sweep(x: &[u8], part: &mut [u64], n: u16, takers: &[u16])
     requires part_len { length part.old ≡ part_words }
     requires n_le_max_actions { n ≤ max_actions }
-    requires listed { Listed (receives x.now) n at.now m }
+    requires listed { takers.now ≡ positions (receives x.now) n }
     ensures { part.new ≡ table max_actions (leads x.now n 0) }
 {
     rows::clear(part);
     let mut later = [0u64; THREAD_ROWS];
-    let mut a = n;
-    while a > 0 {
-        a -= 1;
+    for a in (0..n).rev() {
         let t = thread(x, a) as u16;
         rows::join(part, a, &later, t);
-        edges_from(x, part, at, m, a);
+        edges_from(x, part, a, takers);
         rows::join(&mut later, t, part, a);
         rows::set(&mut later, t, a);
     }
 }
 
 // A way to a position that nothing synchronizes with comes in program order, and the row of where it comes from has all that the position leads to: a round for it would change nothing.
-fn close(part: &mut [u64], n: u16, at: &[u16; MAX_ACTIONS], m: u16)
-    requires { m ≤ max_actions }
-    ensures { part.new ≡ rounds n at.now m part.old }
+fn close(part: &mut [u64], n: u16, takers: &[u16])
+    ensures { part.new ≡ rounds n takers.now part.old }
 {
-    for i in 0..m {
-        rows::round(part, n, at[i as usize]);
+    for k in takers {
+        rows::round(part, n, *k);
     }
 }
 
@@ -78,8 +73,6 @@ pub fn fill(x: &[u8], part: &mut [u64])
         return;
     }
     let takers = listed(x, TAKERS);
-    let at = takers.at;
-    let m = takers.count;
-    sweep(x, part, n, &at, m);
-    close(part, n, &at, m);
+    sweep(x, part, n, takers.as_slice());
+    close(part, n, takers.as_slice());
 }

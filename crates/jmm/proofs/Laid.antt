@@ -12,11 +12,8 @@ use Rattle.model.specs.Limits.{max_actions, part_words}
 use Rattle.model.specs.Layout.{section, size}
 use Rattle.model.specs.WorkArea.{part, laid, filled}
 use Rattle.model.proofs.Words.{length_part}
-use Rattle.record.specs.declared.Span.{Span}
-use Rattle.record.specs.Sections.{bounded}
 use Rattle.hb.specs.Edges.{happens}
 use Rattle.hb.proofs.Filled.{happens_part}
-use Rattle.record.proofs.Parts.{span_section}
 
 module _ (ws : List ℕ) (s : ℕ) (p : List ℕ) (l : length p ≡ part_words) (room : part_words * s + part_words ≤ length ws) where
   pub length_laid : length (laid ws s p) ≡ length ws
@@ -49,7 +46,7 @@ module _ (ws : List ℕ) (s : ℕ) (p : List ℕ) (l : length p ≡ part_words) 
           (take-append-le part_words (drop (part_words * t) before) us (omega arith))
 
 -- a part that was lent to be filled for section s, and came back as ys
-module _ (r us ys : List ℕ) (s : ℕ) {x : Span} (e : x ≡ bounded r s) (small : size (section r s) ≤ max_actions) (room : part_words * s + part_words ≤ length us) where
+module _ (r us ys : List ℕ) (s : ℕ) {x : List ℕ} (e : x ≡ section r s) (small : size (section r s) ≤ max_actions) (room : part_words * s + part_words ≤ length us) where
   abbrev lent : List ℕ
   lent = take (part_words * s + part_words - part_words * s) (drop (part_words * s) us)
 
@@ -57,12 +54,12 @@ module _ (r us ys : List ℕ) (s : ℕ) {x : Span} (e : x ≡ bounded r s) (smal
   length_lent = simp (length-take, length-drop) (omega arith)
 
   pub laid_back :
-      ys ≡ happens (take (x.end - x.at) (drop x.at r)) lent →
+      ys ≡ happens x lent →
       take (part_words * s) us ++ (ys ++ drop (part_words * s + part_words - part_words * s) (drop (part_words * s) us)) ≡ laid us s (part (section r s))
   unfolding laid
   laid_back filled =
       let k : part_words * s + part_words - part_words * s ≡ part_words = omega arith in
-      let same : ys ≡ part (section r s) = filled ∙ ap (λ (z : List ℕ). happens z lent) (span_section r s _ e) ∙ happens_part (section r s) lent length_lent small in
+      let same : ys ≡ part (section r s) = filled ∙ ap (λ (z : List ℕ). happens z lent) e ∙ happens_part (section r s) lent length_lent small in
       rw (same, k, drop-drop)
 
 module _ (r ws : List ℕ) where

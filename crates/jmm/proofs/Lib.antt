@@ -3,5 +3,6 @@ pub mod Accepted
 pub mod Laid
 pub mod Shown
 pub mod Clean
+pub mod Answered
 pub mod Left
 pub mod Unique

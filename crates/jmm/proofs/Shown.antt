@@ -1,5 +1,5 @@
 -- The words of a filled part show happens-before, and what the layers below promise of them is what the questions ask.
-use Prim.Native.Nat.{ℕ, ◌+◌, ◌*◌, ◌-◌, ◌<◌, ◌≤◌}
+use Prim.Native.Nat.{ℕ, zero, suc, ◌*◌, ◌<◌}
 use native.Mathlib.Omega.{arith}
 use mathlib.Core.Path.{◌≡◌, refl, sym, ap₂, ◌∙◌}
 use mathlib.Core.List.{List}
@@ -10,20 +10,16 @@ use Rattle.model.specs.Limits.{max_actions, part_words}
 use Rattle.model.specs.Layout.{section, size}
 use Rattle.model.specs.Relations.{hb}
 use Rattle.model.specs.WorkArea.{shown, filled}
+use Rattle.model.specs.Answers.{checked, up_to, ◌then◌}
+use borrow.Author.Tests.{le-leb}
+use Rattle.std.specs.Prelude.{Result}
 use Rattle.model.specs.Rules.{well_formed}
 use Rattle.model.specs.Justified.{committing}
 use Rattle.model.proofs.Words.{shown_part}
-use Rattle.record.specs.declared.Span.{Span}
-use Rattle.record.specs.Sections.{bounded}
 use Rattle.positions.specs.Limit.{limited}
 use Rattle.positions.proofs.Limited.{within_limit}
 use Rattle.jmm.specs.Accepted.{Accepted, Filled}
-use Rattle.record.proofs.Parts.{span_section}
 use Rattle.jmm.proofs.Laid.{length_filled, part_filled}
-
--- the rules judge every section that is within the limit
-unlimited : (x : List ℕ) (q : Answer) → size x ≤ max_actions → limited x q ≡ q
-unlimited x q l = sym (within_limit x q refl l refl)
 
 -- what a question leaves in the words
 pub filled_parts : (r ws : List ℕ) (n : ℕ) {us : List ℕ} → Accepted r n (length ws) → us ≡ filled r n ws → Filled r n us
@@ -31,34 +27,41 @@ filled_parts r ws n a e =
     let room = a.room in
     rw e (record { accepted = rw (length_filled r ws n room) a; parts = λ s l. part_filled r ws n s l room })
 
-module _ (r : List ℕ) (n : ℕ) (ws : List ℕ) (f : Filled r n ws) (s : ℕ) (l : s < n) where
-  shown_at : shown (take (part_words * s + part_words - part_words * s) (drop (part_words * s) ws)) ≡ hb (section r s)
-  shown_at =
-      let k : part_words * s + part_words - part_words * s ≡ part_words = omega arith in
-      rw (k, f.parts s l) (shown_part (section r s) (f.accepted.sized s l))
-
-  pub well_formed_as : {x : Span} {q : Answer} → x ≡ bounded r s →
-      (let y = take (x.end - x.at) (drop x.at r) in q ≡ limited y (well_formed (shown (take (part_words * s + part_words - part_words * s) (drop (part_words * s) ws))) s y)) →
-      q ≡ well_formed (hb (section r s)) s (section r s)
-  well_formed_as e h =
-      h ∙ ap₂ (λ (g : ℕ → ℕ → Bool) (y : List ℕ). limited y (well_formed g s y)) shown_at (span_section r s _ e)
-      ∙ unlimited (section r s) _ (f.accepted.sized s l)
-
--- sections 0 and i, the words of part 0 standing first
 module _ (r : List ℕ) (n : ℕ) (ws : List ℕ) (f : Filled r n ws) where
-  shown_first : 0 < n → shown (take part_words ws) ≡ hb (section r 0)
-  shown_first l = shown_at r n ws f 0 l
+  shown_at : (s : ℕ) → s < n → {p : List ℕ} → p ≡ take part_words (drop (part_words * s) ws) → shown p ≡ hb (section r s)
+  shown_at s l e = rw (e, f.parts s l) (shown_part (section r s) (f.accepted.sized s l))
 
-  -- a step G on section 0 and its part
-  pub first_as : (G : (ℕ → ℕ → Bool) → List ℕ → Answer) {x : Span} {q : Answer} → 0 < n → x ≡ bounded r 0 →
-      (let y = take (x.end - x.at) (drop x.at r) in q ≡ limited y (G (shown (take part_words ws)) y)) → q ≡ G (hb (section r 0)) (section r 0)
-  first_as G l e h =
-      h ∙ ap₂ (λ (g : ℕ → ℕ → Bool) (y : List ℕ). limited y (G g y)) (shown_first l) (span_section r 0 _ e)
-      ∙ unlimited (section r 0) _ (f.accepted.sized 0 l)
+  -- a step G on section s and its part
+  pub asked_at : (G : (ℕ → ℕ → Bool) → List ℕ → Answer) (s : ℕ) → s < n → {x p : List ℕ} {q : Result (Unit {0}) Answer} →
+      x ≡ section r s → p ≡ take part_words (drop (part_words * s) ws) → q ≡ checked (limited x (G (shown p) x)) → q ≡ checked (G (hb (section r s)) (section r s))
+  asked_at G s l e k h =
+      h ∙ ap₂ (λ (g : ℕ → ℕ → Bool) (y : List ℕ). checked (limited y (G g y))) (shown_at s l k) e
+      ∙ sym (within_limit (section r s) _ refl (f.accepted.sized s l) refl)
 
-  pub committing_as : (i : ℕ) {q : Answer} → i < n →
-      q ≡ limited (section r 0) (limited (section r i) (committing (shown (take part_words ws)) (shown (take (part_words * i + part_words - part_words * i) (drop (part_words * i) ws))) r i)) →
-      q ≡ committing (hb (section r 0)) (hb (section r i)) r i
-  committing_as i l h =
-      h ∙ unlimited (section r 0) _ (f.accepted.sized 0 (omega arith)) ∙ unlimited (section r i) _ (f.accepted.sized i l)
-      ∙ rw (shown_first (omega arith), shown_at r n ws f i l)
+  -- 11 to 14, which ask no part
+  pub ordered_at : (G : List ℕ → Answer) (s : ℕ) → s < n → {x : List ℕ} {q : Result (Unit {0}) Answer} →
+      x ≡ section r s → q ≡ checked (limited x (G x)) → q ≡ checked (G (section r s))
+  ordered_at G s l e h = h ∙ rw e (sym (within_limit (section r s) _ refl (f.accepted.sized s l) refl))
+
+-- what is asked of each section by its part, and of each i by parts 0 and i
+module _ (r : List ℕ) (n : ℕ) (ws : List ℕ) (f : Filled r n ws) where
+  unlimited : (s : ℕ) → s < n → (q : Answer) → limited (section r s) q ≡ q
+  unfolding limited
+  unlimited s l q = rw (le-leb (size (section r s)) max_actions (f.accepted.sized s l)) refl
+
+  part_shown : (s : ℕ) → s < n → shown (take part_words (drop (part_words * s) ws)) ≡ hb (section r s)
+  part_shown s l = shown_at r n ws f s l refl
+
+  pub formed_at : (s : ℕ) → s < n → limited (section r s) (well_formed (shown (take part_words (drop (part_words * s) ws))) s (section r s)) ≡ well_formed (hb (section r s)) s (section r s)
+  formed_at s l = rw (part_shown s l) (unlimited s l (well_formed (hb (section r s)) s (section r s)))
+
+  pub justified_at : (i : ℕ) → i < n → limited (section r 0) (limited (section r i) (committing (shown (take part_words (drop (part_words * 0) ws))) (shown (take part_words (drop (part_words * i) ws))) r i)) ≡ committing (hb (section r 0)) (hb (section r i)) r i
+  justified_at i l =
+      let q = committing (hb (section r 0)) (hb (section r i)) r i in
+      rw (part_shown 0 (omega arith), part_shown i l) (unlimited 0 (omega arith) (limited (section r i) q) ∙ unlimited i l q)
+
+-- checks that agree below n
+pub up_to_same : (f g : ℕ → Answer) (n : ℕ) → ((a : ℕ) → a < n → f a ≡ g a) → up_to n f ≡ up_to n g
+unfolding up_to
+up_to_same f g zero h = refl
+up_to_same f g (suc n) h = ap₂ ◌then◌ (up_to_same f g n (λ a l. h a (omega arith))) (h n (omega arith))

@@ -1,10 +1,8 @@
--- The laws of what is found once, of the stages, of rows by words and of the rules by number.
+-- The laws of what is found once, of the stages, and of rows by words.
 pub mod Words
 pub mod Holds
 pub mod Least
 pub mod Stage
-pub mod Lead
 pub mod Idle
-pub mod Names
-pub mod Chain
+pub mod Lead
 pub mod Unique

@@ -1,16 +1,15 @@
 -- Membership in C_i by the stage.
-use Prim.Native.Nat.{ℕ, zero, suc, ◌-◌, ◌<◌}
+use Prim.Native.Nat.{ℕ, zero, suc, ◌<◌}
 use native.Mathlib.Omega.{arith}
 use mathlib.Core.Path.{◌≡◌, refl, sym}
 use mathlib.Core.List.{List}
-use mathlib.Core.Bool.{Bool, true, false, not, cond, ◌&&◌, ◌||◌, or-false, and_comm, and_assoc}
+use mathlib.Core.Bool.{Bool, true, false, cond, ◌&&◌, ◌||◌, or-false}
 use lib.Dec.{eqb, ltb, leb}
 use borrow.Author.Tests.{lt-leb, ltb-true, ltb-false, leb-true, leb-false}
 use Rattle.model.specs.Search.{any, none}
-use Rattle.model.specs.Layout.{size, ident, kind, commit, seen, read}
-use Rattle.model.specs.Rules.{seen_hb}
-use Rattle.model.specs.Justified.{C, C#, twin_of, new, broken26, broken27, outside, broken29}
-use Rattle.justify.specs.Found.{lower, least_commit, stage, stage_of, fresh}
+use Rattle.model.specs.Layout.{size, ident, commit}
+use Rattle.model.specs.Justified.{C, C#}
+use Rattle.justify.specs.Found.{lower, least_commit, stage}
 
 -- the smaller of two numbers is at most i when one of them is
 smaller : (b : Bool) (c s i : ℕ) → leb (cond (b && ltb c s) c s) i ≡ leb s i || b && leb c i
@@ -45,31 +44,3 @@ module _ (e : List ℕ) (d i : ℕ) where
       go : (b : Bool) → cond b (leb 1 i) (any (size e) (λ a. eqb (ident e a) d && C e i a)) ≡ leb (cond b 1 (least_commit e d (size e))) i
       go true = refl
       go false = least_stage l (size e)
-
--- The rules that ask for membership, by the stages
-module _ (e f : List ℕ) (i : ℕ) (l : i < none) where
-  less : i - 1 < none
-  less = omega arith
-
-  pub new_fresh : (x : ℕ) → new e f i x ≡ fresh (stage_of e f x) i
-  unfolding new
-  new_fresh x = rw (in_c e (ident f x) i l, in_c e (ident f x) (i - 1) less)
-
-  pub by_stage26 : (h : ℕ → ℕ → Bool) (x : ℕ) → broken26 h e f i x ≡ read f x && not (leb (stage_of e f x) (i - 1)) && not (seen_hb h f x x)
-  unfolding broken26
-  by_stage26 h x = rw (in_c e (ident f x) (i - 1) less)
-
-  pub by_stage27 : (x : ℕ) → broken27 e f i x ≡ read f x && fresh (stage_of e f x) i && not (leb (stage e (seen e (twin_of f e x))) (i - 1) && leb (stage e (seen f x)) (i - 1))
-  unfolding broken27
-  by_stage27 x =
-      rw (new_fresh x, in_c e (seen e (twin_of f e x)) (i - 1) less, in_c e (seen f x) (i - 1) less)
-
-  pub outside_stage : (x : ℕ) → outside e f i x ≡ eqb (kind f x) 11 && not (leb (stage_of e f x) i)
-  unfolding outside
-  outside_stage x = rw (in_c e (ident f x) i l)
-
-  pub by_outside29 : (h : ℕ → ℕ → Bool) (x y : ℕ) → broken29 h e f i x y ≡ h x y && (outside e f i x && leb (stage_of e f y) i)
-  unfolding broken29
-  by_outside29 h x y =
-      rw (in_c e (ident f y) i l, and_comm (outside e f i x) (h x y))
-      (and_assoc (h x y) (outside e f i x) (leb (stage_of e f y) i))

@@ -1,5 +1,4 @@
--- What the rules of a committing sequence are asked with, and the rules by number.
+-- What the rules of a committing sequence are asked with.
 pub mod Row
 pub mod Found
 pub mod Idle
-pub mod ByNumber

@@ -1,102 +1,70 @@
 // 28: the edges of E_i. What an action gives is compared by its key with what each takes, and only where the keys are one is the edge looked at.
-ghost use Rattle.std.specs.Prelude.{◌≡◌, ◌&&◌, ◌≤◌};
-ghost use Rattle.model.specs.Limits.{max_actions};
-ghost use Rattle.model.specs.Search.{any, first};
-ghost use Rattle.model.specs.Answers.{rule₂};
+ghost use Rattle.std.specs.Prelude.{◌≡◌};
+ghost use Rattle.model.specs.Search.{found, position};
+ghost use Rattle.model.specs.Answers.{«rule₂», checked};
 ghost use Rattle.model.specs.Layout.{size};
-ghost use Rattle.model.specs.Relations.{sw};
 ghost use Rattle.model.specs.WorkArea.{shown};
-ghost use Rattle.model.specs.Justified.{broken28};
-ghost use Rattle.justify.specs.Row.{shares};
-ghost use Rattle.justify.specs.Found.{Idents, Staged, Sections, Heard};
-ghost use Rattle.edges.specs.Edge.{loose};
-ghost use Rattle.justify.specs.ByNumber.{Next};
+ghost use Rattle.model.specs.Justified.{new, broken28};
+ghost use Rattle.relations.specs.Objects.{taken, key};
+ghost use Rattle.justify.specs.Row.{Masked};
+ghost use Rattle.justify.specs.Found.{Holds};
 
-use crate::found::{mask, table};
+use crate::found::{first_pair, mask, table};
 use crate::row::shares;
-use answers::{naming, numbered};
+use crate::step::Step;
+use answers::rule_of_pair;
 use edges::loose;
-use fields::size;
-use model::{Answer, MAX_ACTIONS, NOTHING_GIVEN, ROW_WORDS};
-use positions::firsts::KEYS;
-use relations::{given, key, sw};
+use fields::{ident, size};
+use model::{Answer, Class, MAX_ACTIONS, ROW_WORDS};
+use relations::{given, key, sw, taken};
 
-// The mask `new` has the actions in C_i outside C_(i-1).
-fn broken28(r: &[u8], f: &[u8], part: &[u64], new: &[u64; ROW_WORDS], i: u8, x: u16, y: u16) -> bool
-    ensures { result ≡ (sw f.now x y && (any max_actions (shares part.now new.now y) && loose (shown part.now) r.now f.now i x y)) }
-{
-    if sw(f, x, y) {
-        if shares(part, y, new) {
-            return loose(r, f, part, i, x, y);
-        }
+impl Step<'_> {
+    // The keys of what the actions of f take.
+    fn heard(&self) -> [u16; MAX_ACTIONS]
+        ensures { Holds result (size self.now.f.now) (λ y. key (taken self.now.f.now y)) }
+    {
+        table(size(self.f), |y| key(taken(self.f, y)))
     }
-    false
-}
 
-// The first of n entries, from `from` on, that is k; n where none is.
-fn seek(t: &[u16; MAX_ACTIONS], k: u16, from: u16, n: u16) -> u16
-    requires { (from ≤ n) × (n ≤ max_actions) }
-    ensures { Next t.now k from n result }
-{
-    for y in from..n {
-        if t[y as usize] == k {
-            return y;
-        }
+    // The actions of f in C_i outside C_(i-1).
+    fn new_mask(&self) -> [u64; ROW_WORDS]
+        ensures { Masked result (size self.now.f.now) (new self.now.e.now self.now.f.now self.now.i) }
+    {
+        mask(size(self.f), |z| self.fresh(ident(self.f, z)))
     }
-    n
-}
 
-// The first y with which x breaks 28; f's size where there is none. `heard` has the keys of what the actions take.
-fn unmatched(
-    r: &[u8],
-    f: &[u8],
-    part: &[u64],
-    heard: &[u16; MAX_ACTIONS],
-    new: &[u64; ROW_WORDS],
-    i: u8,
-    x: u16,
-) -> u16
-    requires { Heard r.now f.now i heard.now new.now }
-    ensures { result ≡ first (size f.now) (broken28 (shown part.now) r.now i x) }
-{
-    let n = size(f);
-    let g = given(f, x);
-    if g.class == NOTHING_GIVEN {
-        return n;
+    // The mask has the actions in C_i outside C_(i-1).
+    fn broken28(&self, mask: &[u64; ROW_WORDS], x: u16, y: u16) -> bool
+        requires { Masked mask.now (size self.now.f.now) (new self.now.e.now self.now.f.now self.now.i) }
+        ensures { result ≡ broken28 (shown self.now.f_part.now) self.now.r.now self.now.i x y }
+    {
+        sw(self.f, x, y)
+            && (shares(self.f_part, y, mask) && loose(self.r, self.f, self.f_part, self.i, x, y))
     }
-    let k = key(g);
-    let mut y = seek(heard, k, 0, n);
-    while y < n {
-        if broken28(r, f, part, new, i, x, y) {
-            return y;
-        }
-        y = seek(heard, k, y + 1, n);
-    }
-    n
-}
 
-// The first x, and the first y for it, that break 28.
-pub(crate) fn edges(
-    r: &[u8],
-    e: &[u8],
-    f: &[u8],
-    part: &[u64],
-    e_firsts: &[u16; KEYS],
-    f_firsts: &[u16; KEYS],
-    least: &[u16; MAX_ACTIONS],
-    i: u8,
-) -> Answer
-    requires { Sections r.now e.now f.now i × Staged e.now e_firsts.now least.now × Idents f.now f_firsts.now }
-    ensures { result ≡ rule₂ 28 i (size f.now) (broken28 (shown part.now) r.now i) }
-{
-    let n = size(f);
-    let heard = table(true, e, f, f_firsts, n);
-    let new = mask(true, e, f, e_firsts, least, i, n);
-    for x in 0..n {
-        let y = unmatched(r, f, part, &heard, &new, i, x);
-        if y < n {
-            return naming(28, i, x, y);
+    // The first y with which x breaks 28. `heard` has the keys of what the actions take, and the mask those in C_i outside C_(i-1).
+    fn partner28(&self, heard: &[u16; MAX_ACTIONS], mask: &[u64; ROW_WORDS], x: u16) -> Option<u16>
+        requires heard_held { Holds heard.now (size self.now.f.now) (λ y. key (taken self.now.f.now y)) }
+        requires mask_held { Masked mask.now (size self.now.f.now) (new self.now.e.now self.now.f.now self.now.i) }
+        ensures { result ≡ position (found (size self.now.f.now) (broken28 (shown self.now.f_part.now) self.now.r.now self.now.i x)) }
+    {
+        let g = given(self.f, x);
+        if g.class == Class::NothingGiven as u8 {
+            return None;
         }
+        let k = key(g);
+        (0..size(self.f)).find(|y| heard[*y as usize] == k && self.broken28(mask, x, *y))
     }
-    numbered(0, 0)
+
+    pub(crate) fn rule28(&self) -> Result<(), Answer>
+        ensures { result ≡ checked (rule₂ 28 self.now.i (size self.now.f.now) (broken28 (shown self.now.f_part.now) self.now.r.now self.now.i)) }
+    {
+        let heard = self.heard();
+        let mask = self.new_mask();
+        rule_of_pair(
+            28,
+            self.i,
+            first_pair(size(self.f), |x| self.partner28(&heard, &mask, x)),
+        )
+    }
 }

@@ -1,269 +1,171 @@
 // Rules of two actions: 22 and 23 of two of E, 29 of two of E_i. An action that is seen to break none is passed over, for in most
 // records nothing is broken.
-ghost use Rattle.std.specs.Prelude.{◌≡◌, not, ◌<◌, ◌≤◌};
-ghost use Rattle.model.specs.Limits.{max_actions};
-ghost use Rattle.model.specs.Search.{any, first};
-ghost use Rattle.model.specs.Answers.{rule₂};
+ghost use Rattle.std.specs.Prelude.{◌≡◌, ◌<◌, not};
+ghost use Rattle.model.specs.Search.{any, found, position};
+ghost use Rattle.model.specs.Answers.{«rule₂», checked};
 ghost use Rattle.model.specs.Layout.{size};
 ghost use Rattle.model.specs.WorkArea.{shown};
-ghost use Rattle.model.specs.Justified.{«twin_of», before, outside, broken29};
-ghost use Rattle.justify.specs.Found.{Staged, Holds};
-ghost use Rattle.justify.specs.ByNumber.{apart, parted, span};
-ghost use Rattle.justify.specs.Idle.{strays, agrees, idle, Calm};
+ghost use Rattle.model.specs.Justified.{C, «just_one», before, outside, broken29};
+ghost use Rattle.justify.specs.Row.{Masked};
+ghost use Rattle.justify.specs.Idle.{strays22, strays23};
 
-use crate::found::{mask, stage};
+use crate::found::{first_pair, mask};
 use crate::row::differ;
-use crate::single::committed;
-use answers::{naming, numbered};
+use crate::step::{Step, committed};
+use answers::rule_of_pair;
 use fields::{ident, kind, place, size};
-use model::{Answer, MAX_ACTIONS, ROW_WORDS};
-use positions::firsts::KEYS;
+use model::{Answer, Kind, ROW_WORDS};
 
 // Whether a's place is below b's.
+#[tactic(auto, unfolding(model::specs::Justified::before))]
 fn lower_place(x: &[u8], a: u16, b: u16) -> bool
     ensures { result ≡ before x.now a b }
 {
     place(x, a) < place(x, b)
 }
 
-// 22 and 23. x and y are the twins of a and b.
-fn apart(
-    number: u8,
-    e: &[u8],
-    f: &[u8],
-    e_part: &[u64],
-    f_part: &[u64],
-    x: u16,
-    y: u16,
-    i: u8,
-    a: u16,
-    b: u16,
-) -> bool
-    requires { (x ≡ twin_of e.now f.now a) × (y ≡ twin_of e.now f.now b) }
-    ensures { result ≡ apart number (shown e_part.now) (shown f_part.now) e.now f.now i a b }
-{
-    if committed(e, i, a) {
-        if committed(e, i, b) {
-            if number == 22 {
-                return rows::before(e_part, a, b) != rows::before(f_part, x, y);
-            }
-            return lower_place(e, a, b) != lower_place(f, x, y);
+impl Step<'_> {
+    #[tactic(auto, unfolding(model::specs::Justified::just_one))]
+    fn broken22(&self, x: u16, y: u16) -> bool
+        requires { (x < size self.now.e.now) × (y < size self.now.e.now) }
+        ensures { result ≡ just_one (shown self.now.e_part.now) (shown self.now.f_part.now) self.now.e.now self.now.f.now self.now.i x y }
+    {
+        committed(self.e, self.i, x)
+            && committed(self.e, self.i, y)
+            && rows::before(self.e_part, x, y)
+                != rows::before(self.f_part, self.twin(x), self.twin(y))
+    }
+
+    // The actions of C_i.
+    fn committed_mask(&self) -> [u64; ROW_WORDS]
+        ensures { Masked result (size self.now.e.now) (C self.now.e.now self.now.i) }
+    {
+        mask(size(self.e), |b| committed(self.e, self.i, b))
+    }
+
+    // Whether b is in C_i, and stands at another position in f.
+    #[tactic(auto, unfolding(crate::specs::Idle::strays22))]
+    fn strays22(&self, b: u16) -> bool
+        requires { b < size self.now.e.now }
+        ensures { result ≡ strays22 self.now.e.now self.now.f.now self.now.i b }
+    {
+        committed(self.e, self.i, b) && self.twin(b) != b
+    }
+
+    fn calm22(&self) -> bool
+        ensures { result ≡ not (any (size self.now.e.now) (strays22 self.now.e.now self.now.f.now self.now.i)) }
+    {
+        !(0..size(self.e)).any(|b| self.strays22(b))
+    }
+
+    // The first y with which x breaks 22. Where no action strays, `calm`, the rows of x that agree in C_i, which is the mask, say that there is none.
+    fn partner22(&self, mask: &[u64; ROW_WORDS], calm: bool, x: u16) -> Option<u16>
+        requires committed { Masked mask.now (size self.now.e.now) (C self.now.e.now self.now.i) }
+        requires none_strays { calm ≡ not (any (size self.now.e.now) (strays22 self.now.e.now self.now.f.now self.now.i)) }
+        requires x_bound { x < size self.now.e.now }
+        ensures { result ≡ position (found (size self.now.e.now) (just_one (shown self.now.e_part.now) (shown self.now.f_part.now) self.now.e.now self.now.f.now self.now.i x)) }
+    {
+        if !committed(self.e, self.i, x) {
+            return None;
         }
-    }
-    false
-}
-
-// Whether x is external and outside C_i.
-fn outside(
-    e: &[u8],
-    f: &[u8],
-    firsts: &[u16; KEYS],
-    least: &[u16; MAX_ACTIONS],
-    i: u8,
-    x: u16,
-) -> bool
-    requires { Staged e.now firsts.now least.now }
-    ensures { result ≡ outside e.now f.now i x }
-{
-    if kind(f, x) == model::EXTERNAL {
-        stage(e, firsts, least, ident(f, x)) > i as u16
-    } else {
-        false
-    }
-}
-
-fn broken29(
-    e: &[u8],
-    f: &[u8],
-    part: &[u64],
-    firsts: &[u16; KEYS],
-    least: &[u16; MAX_ACTIONS],
-    i: u8,
-    x: u16,
-    y: u16,
-) -> bool
-    requires { Staged e.now firsts.now least.now }
-    ensures { result ≡ broken29 (shown part.now) e.now f.now i x y }
-{
-    if rows::before(part, x, y) {
-        if outside(e, f, firsts, least, i, x) {
-            return stage(e, firsts, least, ident(f, y)) <= i as u16;
+        if calm && !differ(self.e_part, self.f_part, x, mask) {
+            return None;
         }
+        (0..size(self.e)).find(|y| self.broken22(x, *y))
     }
-    false
-}
 
-fn pair(
-    number: u8,
-    e: &[u8],
-    f: &[u8],
-    e_part: &[u64],
-    f_part: &[u64],
-    firsts: &[u16; KEYS],
-    twins: &[u16; MAX_ACTIONS],
-    least: &[u16; MAX_ACTIONS],
-    i: u8,
-    x: u16,
-    y: u16,
-) -> bool
-    requires staged { Staged e.now firsts.now least.now × Holds twins.now (size e.now) (twin_of e.now f.now) }
-    requires x_bound { (x < span number e.now f.now) × (y < span number e.now f.now) }
-    ensures { result ≡ parted number (shown e_part.now) (shown f_part.now) e.now f.now i x y }
-{
-    if number < 26 {
-        return apart(
-            number,
-            e,
-            f,
-            e_part,
-            f_part,
-            twins[x as usize],
-            twins[y as usize],
-            i,
-            x,
-            y,
-        );
+    pub(crate) fn rule22(&self) -> Result<(), Answer>
+        ensures { result ≡ checked (rule₂ 22 self.now.i (size self.now.e.now) (just_one (shown self.now.e_part.now) (shown self.now.f_part.now) self.now.e.now self.now.f.now self.now.i)) }
+    {
+        let mask = self.committed_mask();
+        let calm = self.calm22();
+        rule_of_pair(
+            22,
+            self.i,
+            first_pair(size(self.e), |x| self.partner22(&mask, calm, x)),
+        )
     }
-    broken29(e, f, f_part, firsts, least, i, x, y)
-}
 
-// Whether b, whose twin is y, is in C_i and stands elsewhere in f.
-fn strays(number: u8, e: &[u8], f: &[u8], y: u16, i: u8, b: u16) -> bool
-    requires { y ≡ twin_of e.now f.now b }
-    ensures { result ≡ strays number e.now f.now i b }
-{
-    if committed(e, i, b) {
-        if number == 22 {
-            return y != b;
+    #[tactic(auto, unfolding(model::specs::Justified::just_one))]
+    fn broken23(&self, x: u16, y: u16) -> bool
+        requires { (x < size self.now.e.now) × (y < size self.now.e.now) }
+        ensures { result ≡ just_one (before self.now.e.now) (before self.now.f.now) self.now.e.now self.now.f.now self.now.i x y }
+    {
+        committed(self.e, self.i, x)
+            && committed(self.e, self.i, y)
+            && lower_place(self.e, x, y) != lower_place(self.f, self.twin(x), self.twin(y))
+    }
+
+    // Whether b is in C_i, and has another place in f.
+    #[tactic(auto, unfolding(crate::specs::Idle::strays23))]
+    fn strays23(&self, b: u16) -> bool
+        requires { b < size self.now.e.now }
+        ensures { result ≡ strays23 self.now.e.now self.now.f.now self.now.i b }
+    {
+        committed(self.e, self.i, b) && place(self.f, self.twin(b)) != place(self.e, b)
+    }
+
+    fn calm23(&self) -> bool
+        ensures { result ≡ not (any (size self.now.e.now) (strays23 self.now.e.now self.now.f.now self.now.i)) }
+    {
+        !(0..size(self.e)).any(|b| self.strays23(b))
+    }
+
+    // The first y with which x breaks 23; none where no action strays.
+    fn partner23(&self, calm: bool, x: u16) -> Option<u16>
+        requires none_strays { calm ≡ not (any (size self.now.e.now) (strays23 self.now.e.now self.now.f.now self.now.i)) }
+        requires x_bound { x < size self.now.e.now }
+        ensures { result ≡ position (found (size self.now.e.now) (just_one (before self.now.e.now) (before self.now.f.now) self.now.e.now self.now.f.now self.now.i x)) }
+    {
+        if !committed(self.e, self.i, x) {
+            return None;
         }
-        return place(f, y) != place(e, b);
-    }
-    false
-}
-
-// Whether no action of C_i stands elsewhere in f than in e.
-fn calm(number: u8, e: &[u8], f: &[u8], twins: &[u16; MAX_ACTIONS], i: u8) -> bool
-    requires { (size e.now ≤ max_actions) × Holds twins.now (size e.now) (twin_of e.now f.now) }
-    ensures { result ≡ not (any (size e.now) (strays number e.now f.now i)) }
-{
-    let n = size(e);
-    for b in 0..n {
-        if strays(number, e, f, twins[b as usize], i, b) {
-            return false;
+        if calm {
+            return None;
         }
+        (0..size(self.e)).find(|y| self.broken23(x, *y))
     }
-    true
-}
 
-// Whether 22 or 23 needs no look at the pairs of x: it isn't in C_i, or no action of C_i strays and, for 22, the rows of x agree in C_i.
-fn agrees(
-    number: u8,
-    e: &[u8],
-    e_part: &[u64],
-    f_part: &[u64],
-    mask: &[u64; ROW_WORDS],
-    calm: bool,
-    i: u8,
-    x: u16,
-) -> bool
-    ensures { result ≡ agrees number e.now e_part.now f_part.now mask.now calm i x }
-{
-    if !committed(e, i, x) {
-        return true;
+    pub(crate) fn rule23(&self) -> Result<(), Answer>
+        ensures { result ≡ checked (rule₂ 23 self.now.i (size self.now.e.now) (just_one (before self.now.e.now) (before self.now.f.now) self.now.e.now self.now.f.now self.now.i)) }
+    {
+        let calm = self.calm23();
+        rule_of_pair(
+            23,
+            self.i,
+            first_pair(size(self.e), |x| self.partner23(calm, x)),
+        )
     }
-    if !calm {
-        return false;
-    }
-    if number == 22 {
-        !differ(e_part, f_part, x, mask)
-    } else {
-        true
-    }
-}
 
-// Whether x is seen to break the rule with no action, without a look at each.
-fn idle(
-    number: u8,
-    e: &[u8],
-    f: &[u8],
-    e_part: &[u64],
-    f_part: &[u64],
-    firsts: &[u16; KEYS],
-    least: &[u16; MAX_ACTIONS],
-    mask: &[u64; ROW_WORDS],
-    calm: bool,
-    i: u8,
-    x: u16,
-) -> bool
-    requires { Staged e.now firsts.now least.now }
-    ensures { result ≡ idle number e.now f.now e_part.now f_part.now mask.now calm i x }
-{
-    if number < 26 {
-        return agrees(number, e, e_part, f_part, mask, calm, i, x);
+    // Whether x is external and outside C_i.
+    #[tactic(auto, unfolding(model::specs::Justified::outside))]
+    fn outside(&self, x: u16) -> bool
+        ensures { result ≡ outside self.now.e.now self.now.f.now self.now.i x }
+    {
+        kind(self.f, x) == Kind::External as u8 && !self.has(ident(self.f, x))
     }
-    !outside(e, f, firsts, least, i, x)
-}
 
-// The first of n actions y that breaks the rule with x; n where none does.
-fn first_with(
-    number: u8,
-    e: &[u8],
-    f: &[u8],
-    e_part: &[u64],
-    f_part: &[u64],
-    firsts: &[u16; KEYS],
-    twins: &[u16; MAX_ACTIONS],
-    least: &[u16; MAX_ACTIONS],
-    mask: &[u64; ROW_WORDS],
-    calm: bool,
-    i: u8,
-    n: u16,
-    x: u16,
-) -> u16
-    requires staged { Staged e.now firsts.now least.now × Holds twins.now (size e.now) (twin_of e.now f.now) }
-    requires calm { Calm number e.now f.now i mask.now calm }
-    requires n_value { (n ≡ span number e.now f.now) × (x < n) }
-    ensures { result ≡ first n (parted number (shown e_part.now) (shown f_part.now) e.now f.now i x) }
-{
-    if idle(
-        number, e, f, e_part, f_part, firsts, least, mask, calm, i, x,
-    ) {
-        return n;
+    // Most pairs are not in hb, which is asked first.
+    #[tactic(auto, unfolding(model::specs::Justified::broken29))]
+    fn broken29(&self, x: u16, y: u16) -> bool
+        ensures { result ≡ broken29 (shown self.now.f_part.now) self.now.e.now self.now.f.now self.now.i x y }
+    {
+        rows::before(self.f_part, x, y) && self.outside(x) && self.has(ident(self.f, y))
     }
-    for y in 0..n {
-        if pair(number, e, f, e_part, f_part, firsts, twins, least, i, x, y) {
-            return y;
+
+    // The first y with which x breaks 29.
+    fn partner29(&self, x: u16) -> Option<u16>
+        ensures { result ≡ position (found (size self.now.f.now) (broken29 (shown self.now.f_part.now) self.now.e.now self.now.f.now self.now.i x)) }
+    {
+        if !self.outside(x) {
+            return None;
         }
+        (0..size(self.f)).find(|y| self.broken29(x, *y))
     }
-    n
-}
 
-// The first two of n actions that break the rule.
-pub(crate) fn pairs(
-    number: u8,
-    e: &[u8],
-    f: &[u8],
-    e_part: &[u64],
-    f_part: &[u64],
-    firsts: &[u16; KEYS],
-    twins: &[u16; MAX_ACTIONS],
-    least: &[u16; MAX_ACTIONS],
-    i: u8,
-    n: u16,
-) -> Answer
-    requires staged { Staged e.now firsts.now least.now × Holds twins.now (size e.now) (twin_of e.now f.now) }
-    requires n_value { n ≡ span number e.now f.now }
-    ensures { result ≡ rule₂ number i n (parted number (shown e_part.now) (shown f_part.now) e.now f.now i) }
-{
-    let mask = mask(false, e, f, firsts, least, i, size(e));
-    let calm = calm(number, e, f, twins, i);
-    for x in 0..n {
-        let y = first_with(
-            number, e, f, e_part, f_part, firsts, twins, least, &mask, calm, i, n, x,
-        );
-        if y < n {
-            return naming(number, i, x, y);
-        }
+    pub(crate) fn rule29(&self) -> Result<(), Answer>
+        ensures { result ≡ checked (rule₂ 29 self.now.i (size self.now.f.now) (broken29 (shown self.now.f_part.now) self.now.e.now self.now.f.now self.now.i)) }
+    {
+        rule_of_pair(29, self.i, first_pair(size(self.f), |x| self.partner29(x)))
     }
-    numbered(0, 0)
 }

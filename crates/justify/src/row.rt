@@ -10,7 +10,7 @@ use model::ROW_WORDS;
 fn word(p: &[u64], i: usize) -> u64
     ensures { result ≡ get_or p.now i 0 }
 {
-    if i < p.len() { p[i] } else { 0 }
+    p.get(i).copied().unwrap_or(0)
 }
 
 // Whether p and q show a differently before an action of the mask.
@@ -30,5 +30,5 @@ pub(crate) fn differ(p: &[u64], q: &[u64], a: u16, mask: &[u64; ROW_WORDS]) -> b
 pub(crate) fn shares(p: &[u64], a: u16, mask: &[u64; ROW_WORDS]) -> bool
     ensures { result ≡ any max_actions (shares p.now mask.now a) }
 {
-    differ(p, &p[0..0], a, mask)
+    differ(p, &[], a, mask)
 }

@@ -1,209 +1,129 @@
 // The rules of one action: 21, 24 and 25 of one of E, 26 and 27 of one of E_i.
-ghost use Rattle.std.specs.Prelude.{◌≡◌, not, ◌<◌};
+ghost use Rattle.std.specs.Prelude.{◌≡◌, ◌-◌, ◌<◌, ◌&&◌};
 ghost use Rattle.model.specs.Search.{any};
-ghost use Rattle.model.specs.Answers.{rule};
-ghost use Rattle.model.specs.Layout.{size};
-ghost use Rattle.model.specs.WorkArea.{shown};
+ghost use Rattle.model.specs.Answers.{rule, checked};
+ghost use Rattle.model.specs.Layout.{size, seen};
 ghost use Rattle.model.specs.Rules.{«seen_hb»};
-ghost use Rattle.model.specs.Justified.{C, «twin_of», alike, broken21, broken24, broken25, broken26, broken27};
-ghost use Rattle.justify.specs.Found.{Idents, Staged, Asked};
-ghost use Rattle.justify.specs.ByNumber.{single, span};
+ghost use Rattle.model.specs.WorkArea.{shown};
+ghost use Rattle.model.specs.Justified.{«C#», «twin_of», alike, broken21, broken24, broken25, broken26, broken27};
 
-use crate::found::{fresh, previous, stage};
-use answers::{NONE, naming, numbered};
-use fields::{commit, ident, kind, seen, size, target, thread, value};
-use model::{Answer, MAX_ACTIONS};
-use positions::firsts::KEYS;
-use positions::idents::position_of;
+use crate::step::{Step, committed};
+use answers::rule;
+use fields::{ident, kind, seen, size, target, thread, value};
+use model::Answer;
 use table::{read, write};
 
-// Whether action a of e is in C_i.
-pub(crate) fn committed(e: &[u8], i: u8, a: u16) -> bool
-    ensures { result ≡ C e.now i a }
-{
-    commit(e, a) <= i
-}
-
 // Whether x of f has a's identifier, thread, kind and target.
+#[tactic(auto, unfolding(model::specs::Justified::alike))]
 fn alike(e: &[u8], f: &[u8], a: u16, x: u16) -> bool
     ensures { result ≡ alike e.now f.now a x }
 {
-    if ident(f, x) != ident(e, a) {
-        return false;
-    }
-    if thread(f, x) != thread(e, a) {
-        return false;
-    }
-    if kind(f, x) != kind(e, a) {
-        return false;
-    }
-    target(f, x) == target(e, a)
+    ident(f, x) == ident(e, a)
+        && thread(f, x) == thread(e, a)
+        && kind(f, x) == kind(e, a)
+        && target(f, x) == target(e, a)
 }
 
-// Whether some action of f is like a; where there is one, it is mostly the twin x.
-fn kept(e: &[u8], f: &[u8], x: u16, a: u16) -> bool
-    ensures { result ≡ any (size f.now) (alike e.now f.now a) }
-{
-    let n = size(f);
-    if x < n {
-        if alike(e, f, a, x) {
+impl Step<'_> {
+    // Whether some action of f is like a; where there is one, it is mostly the twin.
+    fn kept(&self, a: u16) -> bool
+        requires { a < size self.now.e.now }
+        ensures { result ≡ any (size self.now.f.now) (alike self.now.e.now self.now.f.now a) }
+    {
+        let n = size(self.f);
+        let x = self.twin(a);
+        if x < n && alike(self.e, self.f, a, x) {
             return true;
         }
+        (0..n).any(|y| alike(self.e, self.f, a, y))
     }
-    for y in 0..n {
-        if alike(e, f, a, y) {
-            return true;
-        }
-    }
-    false
-}
 
-// x is a's twin.
-fn broken21(e: &[u8], f: &[u8], x: u16, i: u8, a: u16) -> bool
-    ensures { result ≡ broken21 e.now f.now i a }
-{
-    if committed(e, i, a) {
-        return !kept(e, f, x, a);
+    #[tactic(auto, unfolding(model::specs::Justified::broken21))]
+    fn broken21(&self, a: u16) -> bool
+        requires { a < size self.now.e.now }
+        ensures { result ≡ broken21 self.now.e.now self.now.f.now self.now.i a }
+    {
+        committed(self.e, self.i, a) && !self.kept(a)
     }
-    false
-}
 
-// x is a's twin.
-fn broken24(e: &[u8], f: &[u8], x: u16, i: u8, a: u16) -> bool
-    requires { x ≡ twin_of e.now f.now a }
-    ensures { result ≡ broken24 e.now f.now i a }
-{
-    if committed(e, i, a) {
-        if write(e, a) {
-            return value(e, a) != value(f, x);
-        }
+    pub(crate) fn rule21(&self) -> Result<(), Answer>
+        ensures { result ≡ checked (rule 21 self.now.i (size self.now.e.now) (broken21 self.now.e.now self.now.f.now self.now.i)) }
+    {
+        rule(21, self.i, (0..size(self.e)).find(|a| self.broken21(*a)))
     }
-    false
-}
 
-// x is a's twin.
-fn broken25(e: &[u8], f: &[u8], x: u16, i: u8, a: u16) -> bool
-    requires { x ≡ twin_of e.now f.now a }
-    ensures { result ≡ broken25 e.now f.now i a }
-{
-    let j = previous(i);
-    if committed(e, j, a) {
-        if read(e, a) {
-            return seen(e, a) != seen(f, x);
-        }
+    #[tactic(auto, using(model::proofs::Signed::same_bits), unfolding(model::specs::Justified::broken24))]
+    fn broken24(&self, a: u16) -> bool
+        requires { a < size self.now.e.now }
+        ensures { result ≡ broken24 self.now.e.now self.now.f.now self.now.i a }
+    {
+        committed(self.e, self.i, a)
+            && write(self.e, a)
+            && value(self.e, a) != value(self.f, self.twin(a))
     }
-    false
-}
 
-// Whether the write that x sees isn't hb it.
-fn unseen(f: &[u8], part: &[u64], firsts: &[u16; KEYS], x: u16) -> bool
-    requires { Idents f.now firsts.now }
-    ensures { result ≡ not (seen_hb (shown part.now) f.now x x) }
-{
-    let d = seen(f, x);
-    if d == 0 {
-        return false;
+    pub(crate) fn rule24(&self) -> Result<(), Answer>
+        ensures { result ≡ checked (rule 24 self.now.i (size self.now.e.now) (broken24 self.now.e.now self.now.f.now self.now.i)) }
+    {
+        rule(24, self.i, (0..size(self.e)).find(|a| self.broken24(*a)))
     }
-    !rows::before(part, position_of(f, firsts, d), x)
-}
 
-fn broken26(
-    e: &[u8],
-    f: &[u8],
-    part: &[u64],
-    e_firsts: &[u16; KEYS],
-    f_firsts: &[u16; KEYS],
-    least: &[u16; MAX_ACTIONS],
-    i: u8,
-    x: u16,
-) -> bool
-    requires { Staged e.now e_firsts.now least.now × Idents f.now f_firsts.now }
-    ensures { result ≡ broken26 (shown part.now) e.now f.now i x }
-{
-    if read(f, x) {
-        if stage(e, e_firsts, least, ident(f, x)) > previous(i) as u16 {
-            return unseen(f, part, f_firsts, x);
-        }
+    #[tactic(auto, unfolding(model::specs::Justified::broken25))]
+    fn broken25(&self, a: u16) -> bool
+        requires { a < size self.now.e.now }
+        ensures { result ≡ broken25 self.now.e.now self.now.f.now self.now.i a }
+    {
+        committed(self.e, self.previous(), a)
+            && read(self.e, a)
+            && seen(self.e, a) != seen(self.f, self.twin(a))
     }
-    false
-}
 
-// C_0 is empty: at i = 1 the initial write is not in C_(i-1).
-fn broken27(
-    e: &[u8],
-    f: &[u8],
-    firsts: &[u16; KEYS],
-    least: &[u16; MAX_ACTIONS],
-    i: u8,
-    x: u16,
-) -> bool
-    requires { Staged e.now firsts.now least.now }
-    ensures { result ≡ broken27 e.now f.now i x }
-{
-    if read(f, x) {
-        let d = ident(f, x);
-        if fresh(stage(e, firsts, least, d), i) {
-            let j = previous(i) as u16;
-            let a = position_of(e, firsts, d);
-            if stage(e, firsts, least, seen(e, a)) > j {
-                return true;
-            }
-            return stage(e, firsts, least, seen(f, x)) > j;
-        }
+    pub(crate) fn rule25(&self) -> Result<(), Answer>
+        ensures { result ≡ checked (rule 25 self.now.i (size self.now.e.now) (broken25 self.now.e.now self.now.f.now self.now.i)) }
+    {
+        rule(25, self.i, (0..size(self.e)).find(|a| self.broken25(*a)))
     }
-    false
-}
 
-fn single(
-    number: u8,
-    e: &[u8],
-    f: &[u8],
-    part: &[u64],
-    e_firsts: &[u16; KEYS],
-    f_firsts: &[u16; KEYS],
-    twins: &[u16; MAX_ACTIONS],
-    least: &[u16; MAX_ACTIONS],
-    i: u8,
-    a: u16,
-) -> bool
-    requires { Asked e.now f.now e_firsts.now f_firsts.now twins.now least.now × (a < span number e.now f.now) }
-    ensures { result ≡ single number (shown part.now) e.now f.now i a }
-{
-    if number < 26 {
-        let x = twins[a as usize];
-        match number {
-            21 => broken21(e, f, x, i, a),
-            24 => broken24(e, f, x, i, a),
-            _ => broken25(e, f, x, i, a),
-        }
-    } else {
-        match number {
-            26 => broken26(e, f, part, e_firsts, f_firsts, least, i, a),
-            _ => broken27(e, f, e_firsts, least, i, a),
-        }
+    // Whether the write that x sees is hb it.
+    #[tactic(auto, unfolding(model::specs::Rules::seen_hb))]
+    fn seen_hb(&self, x: u16) -> bool
+        ensures { result ≡ seen_hb (shown self.now.f_part.now) self.now.f.now x x }
+    {
+        let d = seen(self.f, x);
+        d == 0 || rows::before(self.f_part, self.in_f(d), x)
     }
-}
 
-// The first of n actions that breaks the rule.
-pub(crate) fn singles(
-    number: u8,
-    e: &[u8],
-    f: &[u8],
-    part: &[u64],
-    e_firsts: &[u16; KEYS],
-    f_firsts: &[u16; KEYS],
-    twins: &[u16; MAX_ACTIONS],
-    least: &[u16; MAX_ACTIONS],
-    i: u8,
-    n: u16,
-) -> Answer
-    requires { Asked e.now f.now e_firsts.now f_firsts.now twins.now least.now × (n ≡ span number e.now f.now) }
-    ensures { result ≡ rule number i n (single number (shown part.now) e.now f.now i) }
-{
-    for a in 0..n {
-        if single(number, e, f, part, e_firsts, f_firsts, twins, least, i, a) {
-            return naming(number, i, a, NONE);
-        }
+    #[tactic(auto, unfolding(model::specs::Justified::broken26))]
+    fn broken26(&self, x: u16) -> bool
+        ensures { result ≡ broken26 (shown self.now.f_part.now) self.now.e.now self.now.f.now self.now.i x }
+    {
+        read(self.f, x) && !self.had(ident(self.f, x)) && !self.seen_hb(x)
     }
-    numbered(0, 0)
+
+    pub(crate) fn rule26(&self) -> Result<(), Answer>
+        ensures { result ≡ checked (rule 26 self.now.i (size self.now.f.now) (broken26 (shown self.now.f_part.now) self.now.e.now self.now.f.now self.now.i)) }
+    {
+        rule(26, self.i, (0..size(self.f)).find(|x| self.broken26(*x)))
+    }
+
+    // Whether the writes that x sees in E and in E_i are in C_(i-1). C_0 is empty: at i = 1 the initial write is not.
+    fn seen_before(&self, x: u16) -> bool
+        ensures { result ≡ (C# self.now.e.now (self.now.i - 1) (seen self.now.e.now (twin_of self.now.f.now self.now.e.now x)) && C# self.now.e.now (self.now.i - 1) (seen self.now.f.now x)) }
+    {
+        let a = self.in_e(ident(self.f, x));
+        self.had(seen(self.e, a)) && self.had(seen(self.f, x))
+    }
+
+    #[tactic(auto, unfolding(model::specs::Justified::new, model::specs::Justified::broken27))]
+    fn broken27(&self, x: u16) -> bool
+        ensures { result ≡ broken27 self.now.e.now self.now.f.now self.now.i x }
+    {
+        read(self.f, x) && self.fresh(ident(self.f, x)) && !self.seen_before(x)
+    }
+
+    pub(crate) fn rule27(&self) -> Result<(), Answer>
+        ensures { result ≡ checked (rule 27 self.now.i (size self.now.f.now) (broken27 self.now.e.now self.now.f.now self.now.i)) }
+    {
+        rule(27, self.i, (0..size(self.f)).find(|x| self.broken27(*x)))
+    }
 }

@@ -4,36 +4,19 @@
 ghost use Rattle.std.specs.Prelude.{◌≡◌, ◌+◌, ◌<◌, ◌≤◌, length, take, drop, IfOk};
 ghost use Rattle.std.specs.Io.KnownBytes.{Consumes, IsAtEnd};
 
-use model::{Answer, MAX_ACTIONS, MAX_BYTES, MAX_WORDS, PART_WORDS};
+use model::{MAX_ACTIONS, MAX_BYTES, MAX_WORDS, PART_WORDS};
 use std::io;
 use std::io::Read;
 
 // One byte more than the longest record, so that a longer one is seen to be too long.
 const MAX_READ: usize = MAX_BYTES + 1;
 
-fn number(rt: &impl Print, n: u64) -> io::Result<()> {
-    print!(rt; " {n}")
-}
-
-fn answer(rt: &impl Print, question: &str, r: Answer) -> io::Result<()> {
-    print!(rt; "{question}")?;
-    number(rt, r.n as u64)?;
-    number(rt, r.s as u64)?;
-    position(rt, r.a)?;
-    position(rt, r.b)
-}
-
-fn position(rt: &impl Print, p: u16) -> io::Result<()> {
-    number(rt, p as u64)
-}
-
 // The count of section 0, then that many entries of the list.
 fn positions(rt: &impl Print, record: &[u8], list: &[u16]) -> io::Result<()> {
-    let x = record::bounds(record, 0);
-    let n = fields::size(&record[x.at..x.end]);
-    number(rt, n as u64)?;
-    for p in list.iter().take(n as usize) {
-        position(rt, *p)?;
+    let n = fields::size(record::section(record, 0));
+    print!(rt; " {n}")?;
+    for position in list.iter().take(n as usize) {
+        print!(rt; " {position}")?;
     }
     Ok(())
 }
@@ -41,9 +24,9 @@ fn positions(rt: &impl Print, record: &[u8], list: &[u16]) -> io::Result<()> {
 fn order(rt: &impl Print, record: &[u8]) -> io::Result<()> {
     let mut work = [0u64; PART_WORDS];
     let mut list = [0u16; MAX_ACTIONS];
-    let r = jmm::order(record, &mut work, &mut list);
-    answer(rt, "order", r)?;
-    if r.n == 0 {
+    let answer = jmm::order(record, &mut work, &mut list);
+    print!(rt; "order {answer}")?;
+    if answer.n == 0 {
         positions(rt, record, &list)?;
     }
     println!(rt; "")
@@ -51,10 +34,8 @@ fn order(rt: &impl Print, record: &[u8]) -> io::Result<()> {
 
 fn questions(rt: &impl Print, record: &[u8]) -> io::Result<()> {
     let mut work = [0u64; MAX_WORDS];
-    answer(rt, "verdict", jmm::verdict(record, &mut work))?;
-    println!(rt; "")?;
-    answer(rt, "race", jmm::race(record, &mut work))?;
-    println!(rt; "")?;
+    println!(rt; "verdict {}", jmm::verdict(record, &mut work))?;
+    println!(rt; "race {}", jmm::race(record, &mut work))?;
     order(rt, record)
 }
 

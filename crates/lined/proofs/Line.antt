@@ -6,102 +6,107 @@ use mathlib.Core.Path.{◌≡◌, refl, sym, ◌∙◌}
 use mathlib.Core.List.{List}
 use mathlib.Core.Logic.{⊎_elim}
 use mathlib.Core.Bool.{Bool, true, false, not, cond, ◌&&◌, ◌||◌, or-true, or-false, and-false}
+use Rattle.std.specs.Prelude.{Some, None}
 use lib.ListN.{length, get_or, set, replicate, get_or-replicate}
 use lib.Seq.{get_or-set_same, get_or-set_other}
 use lib.Dec.{eqb, ltb, leb}
-use borrow.Author.Tests.{lt-ltb, le-ltb, le-leb, lt-leb, eq-eqb, ne_eqb, eqb-true, ltb-true, ltb-false, leb-false, not-true, not-false}
+use borrow.Author.Tests.{lt-ltb, le-ltb, le-leb, lt-leb, eq-eqb, ne_eqb, eqb-true, ltb-true, ltb-false, leb-true, leb-false, not-true}
 use Rattle.model.specs.Limits.{max_actions, part_words}
 use Rattle.model.specs.Search.{any}
-use Rattle.model.specs.WorkArea.{part}
 use Rattle.model.specs.Layout.{size, thread, target, place, row, sync}
 use Rattle.model.proofs.Bools.{both, either, neither}
 use Rattle.model.proofs.Search.{any_none, any_more, any_at, any_not, any_never}
-use Rattle.relations.specs.declared.Object.{Object}
 use Rattle.relations.specs.Objects.{given, taken}
-use Rattle.lined.specs.Line.{given_row, taken_row, broad, placed, reached, unfit, freely, taken_before, late, lined, lined_part}
+use Rattle.lined.specs.Line.{given_row, taken_row, broad, placed, place_of, reached, unfit, freely, taken_before, late, lined}
 use Rattle.lined.proofs.Objects.{given_class, taken_some, given_placed, given_freely, taken_freely, given_number, taken_number}
 
 -- the rows for which places do not decide are marked in ts where an action before a takes them
-abbrev pub Marks : List ℕ → ℕ → List ℕ → Type 0
-Marks x a ts = (o : ℕ) → 128 ≤ o → o < 320 → eqb (get_or ts o 0) 1 ≡ taken_before x a o
+abbrev pub Marks : List ℕ → ℕ → List Bool → Type 0
+Marks x a ts = (o : ℕ) → 128 ≤ o → o < 320 → get_or ts o false ≡ taken_before x a o
 
 module _ (x : List ℕ) (a : ℕ) where
-  -- one test after another
-  module _ {t : ℕ} (own : t ≡ thread x a) where
-    pub broad_thread : 64 ≤ t → true ≡ broad x a
-    unfolding broad
-    broad_thread h = rw (le-leb 64 (thread x a) (omega arith))
-
-    module _ (h : t < 64) {u : ℕ} (aim : u ≡ target x a) where
-      pub broad_small : u < 64 → false ≡ broad x a
-      unfolding broad
-      broad_small k =
-          let p = given_number x a (omega arith) (omega arith) in
-          let q = taken_number x a (omega arith) (omega arith) in
-          rw (lt-leb 64 (thread x a) (omega arith), lt-leb 64 (given x a).number p, lt-leb 64 (taken x a).number q)
-
-    module _ (h : t < 64) {g : Object} (gives : g ≡ given x a) where
-      pub broad_given : 64 ≤ g.number → true ≡ broad x a
-      unfolding broad
-      broad_given k = rw (← gives, lt-leb 64 (thread x a) (omega arith), le-leb 64 g.number k)
-
-      pub broad_taken : g.number < 64 → {o : Object} → o ≡ taken x a → leb 64 o.number ≡ broad x a
-      unfolding broad
-      broad_taken k e = rw (← gives, ← e, lt-leb 64 (thread x a) (omega arith), lt-leb 64 g.number k)
+  -- the numbers of a's objects are small where both fields are
+  pub broad_small : target x a < 64 → leb 64 (thread x a) ≡ broad x a
+  unfolding broad
+  broad_small k = go (leb 64 (thread x a)) refl
+    where
+      go : (t : Bool) → leb 64 (thread x a) ≡ t → leb 64 (thread x a) ≡ leb 64 (thread x a) || (leb 64 (given x a).number || leb 64 (taken x a).number)
+      go true e = rw e
+      go false e =
+          let h : thread x a < 64 = leb-false 64 (thread x a) e in
+          rw (e, lt-leb 64 (given x a).number (given_number x a h k), lt-leb 64 (taken x a).number (taken_number x a h k))
 
   pub unfit_broad : broad x a ≡ true → unfit x a ≡ true
   unfolding unfit
   unfit_broad h = rw h
 
-  -- the places before a are below `due`, and p is a's place where it synchronizes by it
-  module _ (due : ℕ) (below : (p : ℕ) → reached x a p ≡ ltb p due) (by : Bool) (e : by ≡ placed x a) {q : ℕ} (at : q ≡ place x a) where
-    pub unfit_place : cond by q due < due → unfit x a ≡ true
-    unfolding unfit
-    unfit_place = step by e
-      where
-        step : (t : Bool) → t ≡ placed x a → cond t q due < due → unfit x a ≡ true
-        step true e l = rw (← e, below (place x a), lt-ltb (place x a) due (omega arith)) (or-true (broad x a))
-        step false e l = absurd (let z : ⊥ = omega arith in z)
+  -- the places before a are below `due`
+  module _ (due : ℕ) (below : (p : ℕ) → reached x a p ≡ ltb p due) where
+    -- a synchronizes by its place q
+    module _ {q : ℕ} (e : Some q ≡ place_of x a) where
+      own : (placed x a ≡ true) × (q ≡ place x a)
+      own = go (placed x a) e
+        where
+          go : (t : Bool) → Some q ≡ cond t (Some (place x a)) None → (t ≡ true) × (q ≡ place x a)
+          go true e = (refl, cc)
+          go false e = cc
 
-    pub fit_place : broad x a ≡ false → due ≤ cond by q due → unfit x a ≡ false
-    unfolding unfit
-    fit_place h = step by e
-      where
-        step : (t : Bool) → t ≡ placed x a → due ≤ cond t q due → unfit x a ≡ false
-        step true e l = rw (h, ← e, below (place x a), le-ltb (place x a) due (omega arith))
-        step false e l = rw (h, ← e)
+      pub unfit_place : q < due → unfit x a ≡ true
+      unfolding unfit
+      unfit_place l =
+          let (t, at) = own in
+          rw (t, below (place x a), lt-ltb (place x a) due (omega arith)) (or-true (broad x a))
 
-    pub reached_more : due ≤ cond by q due → (p : ℕ) → reached x (a + 1) p ≡ ltb p (cond by (q + 1) due)
-    unfolding reached
-    reached_more l p = any_more _ a ∙ step by e l
-      where
-        step : (t : Bool) → t ≡ placed x a → due ≤ cond t q due → reached x a p || placed x a && leb p (place x a) ≡ ltb p (cond t (q + 1) due)
-        step false e l = rw (← e) (or-false (reached x a p) ∙ below p)
-        step true e l =
-            rw (← e, below p)
-            (elim (dec_le p q) [
-              | yes h ↦ rw (le-leb p (place x a) (omega arith), lt-ltb p (q + 1) (omega arith)) (or-true (ltb p due))
-              | no g ↦ rw (le-ltb p due (omega arith), lt-leb p (place x a) (omega arith), le-ltb p (q + 1) (omega arith))
-            ])
+      pub fit_place : broad x a ≡ false → due ≤ q → unfit x a ≡ false
+      unfolding unfit
+      fit_place h l = let (t, at) = own in rw (h, t, below (place x a), le-ltb (place x a) due (omega arith))
+
+      pub reached_placed : due ≤ q → (p : ℕ) → reached x (a + 1) p ≡ ltb p (q + 1)
+      unfolding reached
+      reached_placed l p =
+          let (t, at) = own in
+          any_more _ a
+          ∙ rw (t, below p)
+          (elim (dec_le p q) [
+            | yes h ↦ rw (le-leb p (place x a) (omega arith), lt-ltb p (q + 1) (omega arith)) (or-true (ltb p due))
+            | no g ↦ rw (le-ltb p due (omega arith), lt-leb p (place x a) (omega arith), le-ltb p (q + 1) (omega arith))
+          ])
+
+    -- it does not
+    module _ (e : None ≡ place_of x a) where
+      other : placed x a ≡ false
+      other = go (placed x a) e
+        where
+          go : (t : Bool) → None ≡ cond t (Some (place x a)) None → t ≡ false
+          go true e = cc
+          go false e = refl
+
+      pub fit_other : broad x a ≡ false → unfit x a ≡ false
+      unfolding unfit
+      fit_other h = rw (h, other)
+
+      pub reached_other : (p : ℕ) → reached x (a + 1) p ≡ ltb p due
+      unfolding reached
+      reached_other p = any_more _ a ∙ rw other (or-false (reached x a p) ∙ below p)
 
   unplaced : freely x a ≡ true → (row x a).gives.placed ≡ false
   unplaced f =
       (neither (row x a).gives.placed (row x a).takes.placed (not-true (placed x a) (both (not (placed x a)) (sync x a) f).0)).0
 
   -- the rows that those before a take are marked
-  module _ (ts : List ℕ) (marks : Marks x a ts) where
-    pub late_marked : freely x a ≡ true → 128 ≤ given_row x a → given_row x a < 320 → eqb (get_or ts (given_row x a) 0) 1 ≡ late x a
+  module _ (ts : List Bool) (marks : Marks x a ts) where
+    pub late_marked : freely x a ≡ true → 128 ≤ given_row x a → given_row x a < 320 → get_or ts (given_row x a) false ≡ late x a
     unfolding late
     late_marked f h g = rw (unplaced f, marks (given_row x a) h g)
 
-    pub marks_more : length ts ≡ 384 → {i : ℕ} → i ≡ taken_row x a → i < 384 → Marks x (a + 1) (set ts i 1)
+    pub marks_more : length ts ≡ 384 → {i : ℕ} → i ≡ taken_row x a → i < 384 → Marks x (a + 1) (set ts i true)
     unfolding taken_before
     marks_more len {i} e l o h g =
         elim (ℕ_discrete o i) [
           | yes q ↦
-              rw (q, get_or-set_same ts i 1 0 (omega arith)) (sym (any_more (λ b. eqb i (taken_row x b)) a ∙ rw (← e, eq-eqb i i refl) (or-true (taken_before x a i))))
+              rw (q, get_or-set_same ts i true false (omega arith)) (sym (any_more (λ b. eqb i (taken_row x b)) a ∙ rw (← e, eq-eqb i i refl) (or-true (taken_before x a i))))
           | no n ↦
-              rw (get_or-set_other ts i o 1 0 n)
+              rw (get_or-set_other ts i o true false n)
               (marks o h g ∙ sym (any_more (λ b. eqb o (taken_row x b)) a ∙ rw (← e, ne_eqb o i n) (or-false (taken_before x a o))))
         ]
 
@@ -110,17 +115,13 @@ module _ (x : List ℕ) (a : ℕ) where
     marks_kept f o h g =
         marks o h g ∙ sym (any_more (λ b. eqb o (taken_row x b)) a ∙ rw (f o h g) (or-false (taken_before x a o)))
 
-pub due_most : (by : Bool) (p due : ℕ) → p ≤ 65535 → due ≤ 65536 → cond by (p + 1) due ≤ 65536
-due_most true p due h g = omega arith
-due_most false p due h g = g
-
 pub reached_none : (x : List ℕ) (p : ℕ) → reached x 0 p ≡ ltb p 0
 unfolding reached
 reached_none x p = any_none _ ∙ sym (le-ltb p 0 (omega arith))
 
-pub marks_none : (x : List ℕ) → Marks x 0 (replicate 384 0)
+pub marks_none : (x : List ℕ) → Marks x 0 (replicate 384 false)
 unfolding taken_before
-marks_none x o h g = rw (get_or-replicate {A = ℕ} 384 o 0 0 (omega arith)) (sym (any_none _))
+marks_none x o h g = rw (get_or-replicate {A = Bool} 384 o false false (omega arith)) (sym (any_none _))
 
 -- what the tests say of the first n actions
 module _ (x : List ℕ) (n : ℕ) (fit : any n (unfit x) ≡ false) where
@@ -178,49 +179,17 @@ unfolding late taken_before
 never_late x n timely a b h l e =
     any_not (λ c. eqb (given_row x a) (taken_row x c)) a b h (rw e at (any_not (late x) n a l timely))
 
--- the answer of a pass over the first n actions
-module _ (p : ℕ → Bool) (n : ℕ) where
-  pub refused : (a : ℕ) → a < n → p a ≡ true → false ≡ not (any n p)
-  refused a l e = rw (any_at p n a l e)
+-- what is found of the first n actions
+pub refused : (p : ℕ → Bool) (n a : ℕ) → a < n → p a ≡ true → false ≡ not (any n p)
+refused p n a l e = rw (any_at p n a l e)
 
-  pub granted : any n p ≡ false → true ≡ not (any n p)
-  granted h = rw h
-
-  -- what it tells, where n is the section's size m
-  module _ {m : ℕ} (e : n ≡ m) {t : Bool} (told : t ≡ not (any n p)) where
-    pub told_none : t ≡ true → any m p ≡ false
-    told_none h = rw e at (not-true (any n p) (sym told ∙ h))
-
-    pub told_some : t ≡ false → any m p ≡ true
-    told_some h = rw e at (not-false (any n p) (sym told ∙ h))
-
--- the whole test, one after another
-module _ (x ws : List ℕ) where
-  pub lined_other : (length ws ≡ part_words → ⊥) → lined x ws ≡ false
-  unfolding lined
-  lined_other h = rw (ne_eqb (length ws) part_words h)
-
-  pub lined_many : max_actions < size x → lined x ws ≡ false
-  unfolding lined
-  lined_many h = rw (lt-leb (size x) max_actions h, and-false)
-
-  pub lined_unfit : any (size x) (unfit x) ≡ true → lined x ws ≡ false
-  unfolding lined
-  lined_unfit h = rw (h, and-false)
-
-  pub lined_late : any (size x) (late x) ≡ true → lined x ws ≡ false
-  unfolding lined
-  lined_late h = rw (h, and-false)
-
-  pub lined_all : length ws ≡ part_words → size x ≤ max_actions → any (size x) (unfit x) ≡ false → any (size x) (late x) ≡ false → lined x ws ≡ true
-  unfolding lined
-  lined_all l h p q = rw (eq-eqb (length ws) part_words l, le-leb (size x) max_actions h, p, q)
-
-  -- the result and the words
-  pub part_kept : lined x ws ≡ false → (false ≡ lined x ws) × (ws ≡ lined_part x ws)
-  unfolding lined_part
-  part_kept h = (sym h, rw h)
-
-  pub part_filled : lined x ws ≡ true → {us : List ℕ} → us ≡ part x → (true ≡ lined x ws) × (us ≡ lined_part x ws)
-  unfolding lined_part
-  part_filled h e = (sym h, rw h e)
+-- what it is to be in line
+pub lined_parts :
+    (x ws : List ℕ) → lined x ws ≡ true →
+    (length ws ≡ part_words) × (size x ≤ max_actions) × (any (size x) (unfit x) ≡ false) × (any (size x) (late x) ≡ false)
+unfolding lined
+lined_parts x ws h =
+    let (front, timely) = both (eqb (length ws) part_words && leb (size x) max_actions && not (any (size x) (unfit x))) (not (any (size x) (late x))) h in
+    let (room, fit) = both (eqb (length ws) part_words && leb (size x) max_actions) (not (any (size x) (unfit x))) front in
+    let (len, few) = both (eqb (length ws) part_words) (leb (size x) max_actions) room in
+    (eqb-true (length ws) part_words len, leb-true (size x) max_actions few, not-true _ fit, not-true _ timely)

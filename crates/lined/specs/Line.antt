@@ -1,5 +1,5 @@
 -- Sections in line.
-use Rattle.std.specs.Prelude.{ℕ, ◌+◌, ◌*◌, List, Bool, not, cond, ◌&&◌, ◌||◌, length, eqb, leb}
+use Rattle.std.specs.Prelude.{ℕ, ◌+◌, ◌*◌, List, Bool, not, cond, ◌&&◌, ◌||◌, Option, Some, None, length, eqb, leb}
 use Rattle.model.specs.Limits.{max_actions, part_words}
 use Rattle.model.specs.Search.{any}
 use Rattle.model.specs.Layout.{size, thread, place, row, sync}
@@ -24,6 +24,10 @@ broad x a = leb 64 (thread x a) || (leb 64 (given x a).number || leb 64 (taken x
 -- a synchronizes by its place
 abbrev pub placed : List ℕ → ℕ → Bool
 placed x a = (row x a).gives.placed || (row x a).takes.placed
+
+-- its place, where it does
+abbrev pub place_of : List ℕ → ℕ → Option ℕ
+place_of x a = cond (placed x a) (Some (place x a)) None
 
 -- an action before a, that synchronizes by its place, has place p or a larger one
 unfoldable pub reached : List ℕ → ℕ → ℕ → Bool

@@ -1,13 +1,11 @@
 // Happens-before of a section in line: every edge goes to a later position, and so one sweep from the last action to the first closes it.
 #![tactic(auto)]
 
-ghost use Rattle.std.specs.Prelude.{◌≡◌, false, not, cond, ◌<◌, ◌≤◌, length, replicate};
-ghost use Rattle.model.specs.Limits.{max_actions, row_words, part_words};
-ghost use Rattle.model.specs.Layout.{size};
+ghost use Rattle.std.specs.Prelude.{◌≡◌, true, false, not, ◌<◌, replicate};
+ghost use Rattle.model.specs.Limits.{max_actions, row_words};
 ghost use Rattle.model.specs.Search.{any};
-ghost use Rattle.rows.specs.Part.{marked, table};
-ghost use Rattle.lined.specs.Line.{slot, broad, placed, unfit, freely, late, lined, lined_part};
-ghost use Rattle.lined.specs.Passing.{passed};
+ghost use Rattle.rows.specs.Part.{marked};
+ghost use Rattle.lined.specs.Line.{slot, broad, place_of, unfit, freely, late, lined, lined_part};
 
 use fields::{kind, place, size, target, thread};
 use model::{MAX_ACTIONS, PART_WORDS, ROW_WORDS};
@@ -32,34 +30,25 @@ fn slot(o: Object) -> u16
 }
 
 // Whether a has no row among the threads, or an object of a none among the objects. The number of an object is one of the two fields.
+#[tactic(auto, using(crate::proofs::Line::broad_small), unfolding(crate::specs::Line::broad))]
 fn broad(x: &[u8], a: u16) -> bool
     ensures { result ≡ broad x.now a }
 {
-    if thread(x, a) >= NUMBERS {
-        return true;
-    }
-    if target(x, a) < NUMBERS {
-        return false;
-    }
-    if given(x, a).number >= NUMBERS {
-        return true;
-    }
-    taken(x, a).number >= NUMBERS
+    thread(x, a) >= NUMBERS
+        || target(x, a) >= NUMBERS
+            && (given(x, a).number >= NUMBERS || taken(x, a).number >= NUMBERS)
 }
 
-// Whether a synchronizes by its place.
-fn placed(x: &[u8], a: u16) -> bool
-    ensures { result ≡ placed x.now a }
+// The place of a, where it synchronizes by it.
+fn place_of(x: &[u8], a: u16) -> Option<u16>
+    ensures { result ≡ place_of x.now a }
 {
     let k = row_of(kind(x, a));
-    if k.gives.placed { true } else { k.takes.placed }
-}
-
-// Place p, for an action that synchronizes by it, else what is due.
-fn chosen_place(by: bool, p: u32, due: u32) -> u32
-    ensures { result ≡ cond by p due }
-{
-    if by { p } else { due }
+    if k.gives.placed || k.takes.placed {
+        Some(place(x, a))
+    } else {
+        None
+    }
 }
 
 // Whether every action has its rows, and the places by which actions synchronize rise with the positions.
@@ -71,12 +60,13 @@ fn rising(x: &[u8], n: u16) -> bool
         if broad(x, a) {
             return false;
         }
-        let by = placed(x, a);
-        let p = place(x, a) as u32;
-        if chosen_place(by, p, due) < due {
-            return false;
+        if let Some(place) = place_of(x, a) {
+            let p = place as u32;
+            if p < due {
+                return false;
+            }
+            due = p + 1;
         }
-        due = chosen_place(by, p + 1, due);
     }
     true
 }
@@ -85,10 +75,7 @@ fn rising(x: &[u8], n: u16) -> bool
 fn freely(x: &[u8], a: u16) -> bool
     ensures { result ≡ freely x.now a }
 {
-    if placed(x, a) {
-        return false;
-    }
-    sync(x, a)
+    place_of(x, a).is_none() && sync(x, a)
 }
 
 // Whether no start stands after the beginning of its thread, and no end after a join of it.
@@ -96,18 +83,25 @@ fn timely(x: &[u8], n: u16) -> bool
     requires { any n (unfit x.now) ≡ false }
     ensures { result ≡ not (any n (late x.now)) }
 {
-    let mut seen = [0u8; OBJECTS];
+    let mut seen = [false; OBJECTS];
     for a in 0..n {
         if freely(x, a) {
-            let o = slot(given(x, a)) as usize;
-            if seen[o] == 1 {
+            if seen[slot(given(x, a)) as usize] {
                 return false;
             }
-            let i = slot(taken(x, a)) as usize;
-            seen[i] = 1;
+            seen[slot(taken(x, a)) as usize] = true;
         }
     }
     true
+}
+
+// Whether the words are a part, and the section is in line.
+#[tactic(auto, unfolding(crate::specs::Line::lined))]
+fn in_line(x: &[u8], part: &[u64]) -> bool
+    ensures { result ≡ lined x.now part.now }
+{
+    let n = size(x);
+    part.len() == PART_WORDS && n as usize <= MAX_ACTIONS && rising(x, n) && timely(x, n)
 }
 
 // A row with the bit for a alone.
@@ -125,20 +119,14 @@ fn single(a: u16) -> [u64; ROW_WORDS]
 }
 
 // Row a gets what is noted of the actions of its thread, and of those that take its object: all of them are later, and passed. Then a is noted, with its row.
-fn sweep(x: &[u8], part: &mut [u64], n: u16)
-    requires part_len { length part.old ≡ part_words }
-    requires n_value { n ≡ size x.now }
-    requires n_le_max_actions { n ≤ max_actions }
-    requires x_value { any n (unfit x.now) ≡ false }
-    requires x_value_2 { any n (late x.now) ≡ false }
-    ensures { part.new ≡ table max_actions (passed x.now 0) }
+fn sweep(x: &[u8], part: &mut [u64])
+    requires { lined x.now part.old ≡ true }
+    ensures { part.new ≡ lined_part x.now part.old }
 {
     rows::clear(part);
     let mut later = [0u64; THREAD_ROWS];
     let mut through = [0u64; OBJECT_ROWS];
-    let mut a = n;
-    while a > 0 {
-        a -= 1;
+    for a in (0..size(x)).rev() {
         let t = thread(x, a) as u16;
         let mut own = [0u64; ROW_WORDS];
         rows::join(&mut own, 0, &later, t);
@@ -151,23 +139,14 @@ fn sweep(x: &[u8], part: &mut [u64], n: u16)
 }
 
 // Fills the part of a section in line, whatever stood there. The result is whether it is one; where it is none, the words stay.
+#[tactic(auto, unfolding(crate::specs::Line::lined_part))]
 pub fn lined(x: &[u8], part: &mut [u64]) -> bool
     ensures value { result ≡ lined x.now part.old }
     ensures part_after { part.new ≡ lined_part x.now part.old }
 {
-    if part.len() != PART_WORDS {
-        return false;
+    let in_line = in_line(x, part);
+    if in_line {
+        sweep(x, part);
     }
-    let n = size(x);
-    if MAX_ACTIONS < n as usize {
-        return false;
-    }
-    if !rising(x, n) {
-        return false;
-    }
-    if !timely(x, n) {
-        return false;
-    }
-    sweep(x, part, n);
-    true
+    in_line
 }

@@ -1,6 +1,9 @@
 pub mod Bools
 pub mod Search
-pub mod Scan
+pub mod Options
+pub mod Chains
+pub mod Checked
+pub mod Checks
 pub mod Ways
 pub mod Best
 pub mod Words
@@ -12,3 +15,4 @@ pub mod Synchronizes
 pub mod Map
 pub mod Signed
 pub mod Settles
+pub mod Tags

@@ -1,6 +1,6 @@
 -- Synchronizes-with is what the table of kinds says of giving and taking, whatever the section's bytes: one test, computed over the kinds and over what
 -- is asked of the fields.
-use Prim.Native.Nat.{ℕ, zero, suc, ◌<◌}
+use Prim.Native.Nat.{ℕ, zero, suc, ◌<◌, ◌≤◌}
 use native.Mathlib.Decide.{dec_lt}
 use native.Mathlib.Omega.{arith}
 use mathlib.Core.Path.{◌≡◌, refl, sym, ◌∙◌}
@@ -9,9 +9,9 @@ use mathlib.Core.Bool.{Bool, true, false, not, cond, ◌&&◌, ◌||◌, beq}
 use lib.ListN.{get_or-eq_default}
 use lib.Dec.{eqb, ltb}
 use borrow.Author.Tests.{ne_eqb, ltb-true, not-false}
-use Rattle.model.specs.declared.Kind.{Kind}
+use Rattle.model.specs.declared.KindRow.{KindRow}
 use Rattle.model.specs.Search.{any}
-use Rattle.model.specs.Kinds.{kinds, no_kind_row, kind_row}
+use Rattle.model.specs.Kinds.{kinds, no_kind_row, kind_row, same_class}
 use Rattle.model.specs.Layout.{thread, kind, target, place}
 use Rattle.model.specs.Relations.{sw, hands, tabled_sw}
 use Rattle.model.proofs.Bools.{both, same_bool}
@@ -41,9 +41,9 @@ listed : ℕ → ℕ → Bool → Bool → Bool → Bool → Bool
 listed k l s t u p =
     eqb k 6 && eqb l 5 && s && p || eqb k 4 && eqb l 3 && s && p || eqb k 7 && eqb l 8 && t || eqb k 9 && eqb l 10 && u
 
-tabled : Kind → Kind → Bool → Bool → Bool → Bool → Bool → Bool
+tabled : KindRow → KindRow → Bool → Bool → Bool → Bool → Bool → Bool
 tabled k l s t u v p =
-    eqb k.gives.class l.takes.class && cond k.gives.own (cond l.takes.own v u) (cond l.takes.own t s)
+    same_class k.gives.class l.takes.class && cond k.gives.own (cond l.takes.own v u) (cond l.takes.own t s)
     && (not k.gives.placed || p)
 
 same : ℕ → ℕ → Test 5
@@ -52,6 +52,11 @@ same k l s t u v p = beq (listed k l s t u p) (tabled (kind_row k) (kind_row l) 
 computed : any 12 (λ k. any 12 (λ l. not (all 5 (same k l)))) ≡ false
 unfolding any kind_row same listed tabled
 computed = refl
+
+-- a number past the table has the row of no kind
+pub past_table : (k : ℕ) → 12 ≤ k → kind_row k ≡ no_kind_row
+unfolding kind_row
+past_table k h = get_or-eq_default kinds no_kind_row h
 
 -- every number is as one of the kinds: a number past the table has the row of 0, and is none of the digits
 record As (k j : ℕ) : Type 0 where
@@ -68,7 +73,7 @@ as_kind k =
         0,
         record {
           inside = omega arith;
-          row = get_or-eq_default kinds no_kind_row {n = k} (omega arith);
+          row = past_table k (omega arith);
           digit = λ d l. ne_eqb k (suc d) (λ e. omega (arith, ltb-true d 11 l)) ∙ sym (ne_eqb 0 (suc d) (λ e. omega arith));
         },
       )
@@ -98,7 +103,7 @@ sw_table x a b =
     (eqb (thread x a) (thread x b)) (ltb (place x a) (place x b)))
 
 -- what holds of each row of the table holds of every kind
-pub every_row : (q : Kind → Bool) → any 12 (λ k. not (q (kind_row k))) ≡ false → (k : ℕ) → q (kind_row k) ≡ true
+pub every_row : (q : KindRow → Bool) → any 12 (λ k. not (q (kind_row k))) ≡ false → (k : ℕ) → q (kind_row k) ≡ true
 every_row q table k =
     let (j, a) = as_kind k in
     rw a.row (not-false (q (kind_row j)) (any_not (λ k. not (q (kind_row k))) 12 j a.inside table))

@@ -1,5 +1,5 @@
 -- An answer is (N, S, A, B). Smaller numbers are checked first: the answer is the first in a row of checks that is not 0.
-use Rattle.std.specs.Prelude.{ℕ, zero, suc, ◌+◌, ◌*◌, ◌^◌, Bool, true, false, eqb}
+use Rattle.std.specs.Prelude.{ℕ, zero, suc, ◌+◌, ◌*◌, ◌^◌, Bool, true, false, eqb, Option, Some, None, Result, Ok, Err}
 use Rattle.model.specs.declared.Answer.{Answer}
 use Rattle.model.specs.Search.{any, found, none}
 
@@ -35,6 +35,24 @@ rule N s n p = naming N s (found n p) none
 -- number N and section s, naming the least x, then the least y below n, between which p holds
 unfoldable pub rule₂ : ℕ → ℕ → ℕ → (ℕ → ℕ → Bool) → Answer
 rule₂ N s n p = let x = found n (λ x. any n (p x)) in naming N s x (found n (p x))
+
+-- A check as a result: an error, which is the answer, where something is broken
+unfoldable pub checked : Answer → Result (Unit {0}) Answer
+checked r = elim (eqb r.n 0) [ true ↦ Ok tt | false ↦ Err r ]
+
+-- and the answer that it comes to
+abbrev pub answered : Result (Unit {0}) Answer → Answer
+answered (Ok u) = pass
+answered (Err r) = r
+
+-- number N and section s, naming a position, or two, where there are such
+abbrev pub named : ℕ → ℕ → Option ℕ → Result (Unit {0}) Answer
+named N s None = Ok tt
+named N s (Some a) = Err (answer N s a none)
+
+abbrev pub named₂ : ℕ → ℕ → Option (ℕ × ℕ) → Result (Unit {0}) Answer
+named₂ N s None = Ok tt
+named₂ N s (Some q) = Err (answer N s q.0 q.1)
 
 -- the host's one number
 unfoldable pub packed : Answer → ℕ

@@ -2,7 +2,7 @@
 use Rattle.std.specs.Prelude.{ℕ, zero, suc, ◌+◌, ◌*◌, ◌/◌, ◌%◌, ◌^◌, List, [], ◌∷◌, Bool, false, get_or, take, drop, eqb, ℤ, pos, negsuc}
 use Rattle.std.specs.Int.{w64}
 use Rattle.std.proofs.Common.{to_z}
-use Rattle.model.specs.declared.Kind.{Kind}
+use Rattle.model.specs.declared.KindRow.{KindRow}
 use Rattle.model.specs.declared.Header.{Header}
 use Rattle.model.specs.declared.Action.{Action}
 use Rattle.model.specs.Kinds.{kind_row}
@@ -111,7 +111,7 @@ action x a =
     }
 
 -- What the table of kinds says of it
-abbrev pub row : List ℕ → ℕ → Kind
+abbrev pub row : List ℕ → ℕ → KindRow
 row x a = kind_row (kind x a)
 
 abbrev pub sync : List ℕ → ℕ → Bool

@@ -3,6 +3,7 @@ pub mod Limits
 pub mod Search
 pub mod Answers
 pub mod Kinds
+pub mod Bytes
 pub mod Layout
 pub mod Relations
 pub mod WorkArea

@@ -1,14 +1,16 @@
 -- Numbers 1 to 8: when a record is refused.
-use Rattle.std.specs.Prelude.{ℕ, ◌+◌, min, List, Bool, not, cond, ◌&&◌, ◌||◌, length, eqb, ltb, leb, pos}
+use Rattle.std.specs.Prelude.{ℕ, ◌+◌, min, List, Bool, true, false, not, cond, ◌&&◌, ◌||◌, length, eqb, ltb, leb, pos}
 use Rattle.std.specs.Bool.{beq}
 use Rattle.model.specs.declared.Answer.{Answer}
-use Rattle.model.specs.declared.Kind.{Kind}
+use Rattle.model.specs.declared.KindRow.{KindRow}
+use Rattle.model.specs.declared.Target.{Target}
+use Rattle.model.specs.declared.Target.TheVariants as target
 use Rattle.model.specs.declared.Header.{Header}
 use Rattle.model.specs.declared.Action.{Action}
 use Rattle.model.specs.Limits.{max_actions}
 use Rattle.model.specs.Search.{any, none}
 use Rattle.model.specs.Answers.{answer, when, up_to, rule, ◌then◌}
-use Rattle.model.specs.Kinds.{variable, monitor, thread as thread_class, zero_byte, any_byte, kind_row}
+use Rattle.model.specs.Kinds.{kind_row}
 use Rattle.model.specs.Layout.{byte, two, mark, version, K, header, volatile, past, start, section, size, action, ident, unused, same_ℤ}
 
 -- "fewer than 17 bytes, or wrong mark"
@@ -34,21 +36,25 @@ rule5 r =
     up_to (K r + 1) (λ s. when (cut_at r (start r s)) (answer 5 s none none))
     then when (ltb (start r (K r + 1)) (length r)) (answer 5 (K r) none none)
 
+-- a target t of class c, under the header h; a variable is volatile exactly where v
+abbrev pub in_class : Header → Bool → ℕ → Target → Bool
+in_class h v t target.NoKind = false
+in_class h v t target.Variable = ltb t h.variables && beq (volatile h t) v
+in_class h v t target.Monitor = ltb t h.monitors
+in_class h v t target.Thread = ltb t h.threads
+in_class h v t target.Zero = eqb t 0
+in_class h v t target.Any = true
+
 -- a target t against its row k of the table of kinds
-unfoldable pub targeted : Header → Kind → ℕ → Bool
-targeted h k t =
-    eqb k.target variable && ltb t h.variables && beq (volatile h t) k.volatile
-    || eqb k.target monitor && ltb t h.monitors
-    || eqb k.target thread_class && ltb t h.threads
-    || eqb k.target zero_byte && eqb t 0
-    || eqb k.target any_byte
+unfoldable pub targeted : Header → KindRow → ℕ → Bool
+targeted h k t = in_class h k.volatile t k.target
 
 -- "section 0: 1 to K, or 0 when K is 0; other sections: 0"
 unfoldable pub committed_in : ℕ → ℕ → ℕ → Bool
 committed_in K s c = cond (eqb s 0) (leb (min K 1) c && leb c K) (eqb c 0)
 
 -- the write seen stands in a read alone, a value in a read or a write
-unfoldable pub carried : Kind → Action → Bool
+unfoldable pub carried : KindRow → Action → Bool
 carried k a = (k.read || eqb a.seen 0) && (k.read || k.write || same_ℤ a.value (pos 0))
 
 -- the fields of an action a of section s are as the two tables say, under the header h

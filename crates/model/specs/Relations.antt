@@ -1,6 +1,7 @@
 -- Relations on the positions of a section x: program order, synchronizes-with, happens-before, races.
 use Rattle.std.specs.Prelude.{ℕ, zero, suc, List, Bool, not, cond, ◌&&◌, ◌||◌, eqb, ltb}
 use Rattle.model.specs.declared.Objects.{Objects}
+use Rattle.model.specs.Kinds.{same_class}
 use Rattle.model.specs.Layout.{size, thread, kind, target, place, row, write}
 
 -- two actions of one thread, in section order
@@ -22,7 +23,7 @@ number o x a = cond o.own (thread x a) (target x a)
 unfoldable pub hands : List ℕ → ℕ → ℕ → Bool
 hands x a b =
     let g = (row x a).gives in
-    let t = (row x b).takes in eqb g.class t.class && eqb (number g x a) (number t x b)
+    let t = (row x b).takes in same_class g.class t.class && eqb (number g x a) (number t x b)
 
 unfoldable pub tabled_sw : List ℕ → ℕ → ℕ → Bool
 tabled_sw x a b = hands x a b && (not (row x a).gives.placed || ltb (place x a) (place x b))

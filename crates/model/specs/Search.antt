@@ -1,5 +1,5 @@
 -- Searches over positions, by which every rule is stated.
-use Rattle.std.specs.Prelude.{ℕ, zero, suc, ◌+◌, Bool, false, cond, ◌||◌, ltb}
+use Rattle.std.specs.Prelude.{ℕ, zero, suc, ◌+◌, Bool, true, false, cond, ◌||◌, eqb, ltb, Option, Some, None}
 
 -- p holds at some position below n
 unfoldable pub any : ℕ → (ℕ → Bool) → Bool
@@ -23,3 +23,15 @@ none = 65535
 -- the least position below n at which p holds, or none
 unfoldable pub found : ℕ → (ℕ → Bool) → ℕ
 found n p = let a = first n p in cond (ltb a n) a none
+
+-- The same as options: a position that may be none, the position a where it is below n, and the least x, then the least y below n, between which p holds
+unfoldable pub position : ℕ → Option ℕ
+position a = elim (eqb a none) [ true ↦ None | false ↦ Some a ]
+
+unfoldable pub below : ℕ → ℕ → Option ℕ
+below n a = elim (ltb a n) [ true ↦ Some a | false ↦ None ]
+
+unfoldable pub found₂ : ℕ → (ℕ → ℕ → Bool) → Option (ℕ × ℕ)
+found₂ n p =
+    let x = found n (λ x. any n (p x)) in
+    elim (eqb x none) [ true ↦ None | false ↦ Some (x, found n (p x)) ]

@@ -1,6 +1,10 @@
 // Document 01 in definitions: specs/ is what a reader must believe. The code here is the shapes and the numbers that every layer shares.
 #![tactic(auto)]
 
+ghost use Rattle.model.specs.Bytes.{Decodes};
+
+use std::fmt;
+
 // The answer (N, S, A, B) to a question: number, section, positions.
 #[derive(Clone, Copy)]
 pub struct Answer {
@@ -8,6 +12,12 @@ pub struct Answer {
     pub s: u8,
     pub a: u16,
     pub b: u16,
+}
+
+impl fmt::Display for Answer {
+    fn fmt<W: fmt::Write>(&self, f: &mut fmt::Formatter<W>) -> fmt::Result {
+        write!(f, "{} {} {} {}", self.n, self.s, self.a, self.b)
+    }
 }
 
 // The most that a record has: threads, variables, monitors, justifying executions, actions a section.
@@ -38,61 +48,77 @@ pub const PART_WORDS: usize = ROW_WORDS * MAX_ACTIONS;
 
 pub const MAX_WORDS: usize = PART_WORDS * (MAX_JUSTIFYING + 1);
 
-// The kinds of actions.
-pub const READ: u8 = 1;
+// The kinds of actions, and the byte of each in a record.
+#[derive(Clone, Copy, PartialEq, Eq)]
+pub enum Kind {
+    Read = 1,
+    Write = 2,
+    VolatileRead = 3,
+    VolatileWrite = 4,
+    Lock = 5,
+    Unlock = 6,
+    Start = 7,
+    First = 8,
+    Last = 9,
+    Join = 10,
+    External = 11,
+}
 
-pub const WRITE: u8 = 2;
+// A byte that is no kind.
+#[derive(Clone, Copy, PartialEq, Eq)]
+pub struct NoKind;
 
-pub const VOLATILE_READ: u8 = 3;
+impl TryFrom<u8> for Kind {
+    type Error = NoKind;
 
-pub const VOLATILE_WRITE: u8 = 4;
+    ghost try_from_gives = { Decodes };
 
-pub const LOCK: u8 = 5;
-
-pub const UNLOCK: u8 = 6;
-
-pub const START: u8 = 7;
-
-pub const FIRST: u8 = 8;
-
-pub const LAST: u8 = 9;
-
-pub const JOIN: u8 = 10;
-
-pub const EXTERNAL: u8 = 11;
+    fn try_from(byte: u8) -> Result<Self, NoKind> {
+        match byte {
+            1 => Ok(Kind::Read),
+            2 => Ok(Kind::Write),
+            3 => Ok(Kind::VolatileRead),
+            4 => Ok(Kind::VolatileWrite),
+            5 => Ok(Kind::Lock),
+            6 => Ok(Kind::Unlock),
+            7 => Ok(Kind::Start),
+            8 => Ok(Kind::First),
+            9 => Ok(Kind::Last),
+            10 => Ok(Kind::Join),
+            11 => Ok(Kind::External),
+            _ => Err(NoKind),
+        }
+    }
+}
 
 // The classes of targets.
-pub const NO_KIND: u8 = 0;
-
-pub const VARIABLE: u8 = 1;
-
-pub const MONITOR: u8 = 2;
-
-pub const THREAD: u8 = 3;
-
-pub const ZERO: u8 = 4;
-
-pub const ANY: u8 = 5;
+#[derive(Clone, Copy, PartialEq, Eq)]
+pub enum Target {
+    NoKind,
+    Variable,
+    Monitor,
+    Thread,
+    Zero,
+    Any,
+}
 
 // The classes of objects by which actions synchronize: volatile variables, monitors, beginnings and ends of threads. Nothing that is given and
 // nothing that is taken are two classes, so that they never meet.
-pub const OF_VARIABLE: u8 = 0;
-
-pub const OF_MONITOR: u8 = 1;
-
-pub const OF_BEGINNING: u8 = 2;
-
-pub const OF_END: u8 = 3;
-
-pub const NOTHING_GIVEN: u8 = 4;
-
-pub const NOTHING_TAKEN: u8 = 5;
+#[derive(Clone, Copy, PartialEq, Eq)]
+pub enum Class {
+    Variable,
+    Monitor,
+    Beginning,
+    End,
+    NothingGiven,
+    NothingTaken,
+}
 
 // What the actions of a kind give to later ones, or take from earlier ones: an object of a class, whose number is the action's own thread or its
 // target; and whether the places of giver and taker decide.
 #[derive(Clone, Copy)]
 pub struct Objects {
-    pub class: u8,
+    pub class: Class,
     pub own: bool,
     pub placed: bool,
 }
@@ -100,8 +126,8 @@ pub struct Objects {
 // A row of the table of kinds: the target's class, whether a variable must be volatile, whether the kind is a synchronization kind, a read, a write;
 // what it gives and what it takes.
 #[derive(Clone, Copy)]
-pub struct Kind {
-    pub target: u8,
+pub struct KindRow {
+    pub target: Target,
     pub volatile: bool,
     pub sync: bool,
     pub read: bool,

@@ -9,37 +9,29 @@ mod threads;
 ghost use Rattle.std.specs.Prelude.{◌≡◌, ◌≤◌};
 ghost use Rattle.model.specs.Limits.{max_actions};
 ghost use Rattle.model.specs.Layout.{size};
+ghost use Rattle.model.specs.Answers.{checked};
 ghost use Rattle.model.specs.Rules.{ordered};
 ghost use Rattle.positions.specs.Limit.{limited};
 
-use answers::{NONE, naming, numbered};
+use answers::rule;
 use model::{Answer, MAX_ACTIONS};
 
-fn in_order(x: &[u8], s: u8) -> Answer
+fn in_order(x: &[u8], s: u8) -> Result<(), Answer>
     requires { size x.now ≤ max_actions }
-    ensures { result ≡ ordered s x.now }
+    ensures { result ≡ checked (ordered s x.now) }
 {
-    let r = naming(11, s, order::first11(x), NONE);
-    if r.n != 0 {
-        return r;
-    }
-    let r = naming(12, s, order::first12(x), NONE);
-    if r.n != 0 {
-        return r;
-    }
-    let r = naming(13, s, monitors::least13(x), NONE);
-    if r.n != 0 {
-        return r;
-    }
-    naming(14, s, threads::first14(x), NONE)
+    rule(11, s, order::first11(x))?;
+    rule(12, s, order::first12(x))?;
+    rule(13, s, monitors::least13(x))?;
+    rule(14, s, threads::first14(x))
 }
 
 // The order, monitor and thread rules, 11 to 14.
-pub fn ordered(x: &[u8], s: u8) -> Answer
-    ensures { result ≡ limited x.now (ordered s x.now) }
+pub fn ordered(x: &[u8], s: u8) -> Result<(), Answer>
+    ensures { result ≡ checked (limited x.now (ordered s x.now)) }
 {
     if fields::size(x) as usize > MAX_ACTIONS {
-        return numbered(0, 0);
+        return Ok(());
     }
     in_order(x, s)
 }

@@ -1,84 +1,70 @@
 // 13, the monitor rule.
-ghost use Rattle.std.specs.Prelude.{◌≡◌, cond, ◌||◌, eqb, ◌≤◌};
+ghost use Rattle.std.specs.Prelude.{◌≡◌, ◌≤◌};
 ghost use Rattle.model.specs.Limits.{max_actions};
-ghost use Rattle.model.specs.Layout.{size, thread};
-ghost use Rattle.model.specs.Search.{found};
+ghost use Rattle.model.specs.Layout.{size};
+ghost use Rattle.model.specs.Search.{found, position};
 ghost use Rattle.model.specs.Rules.{held, least, broken13};
-ghost use Rattle.positions.specs.Lists.{Listed};
-ghost use Rattle.ordered.specs.Monitors.{monitoring, counted};
+ghost use Rattle.positions.specs.Lists.{positions};
+ghost use Rattle.ordered.specs.Monitors.{monitoring, admits, counted};
 
-use answers::NONE;
-use model::{LOCK, MAX_ACTIONS, UNLOCK};
+use model::Kind;
 use positions::lists;
 
-// 1 where b is an action of this kind on the monitor at a smaller place, by the thread or by anyone.
-fn counted(x: &[u8], kind: u8, monitor: u8, place: u16, anyone: bool, thread: u8, b: u16) -> u16
-    ensures { (result ≡ cond (counted x.now kind monitor place anyone thread b) 1 0) × (result ≤ 1) }
+// b is on the monitor at a smaller place, by the thread, or by anyone where none is named.
+fn counted(x: &[u8], monitor: u8, place: u16, by: Option<u8>, b: u16) -> bool
+    ensures { result ≡ counted x.now monitor place by b }
 {
-    if fields::kind(x, b) != kind {
-        return 0;
-    }
-    if fields::target(x, b) != monitor {
-        return 0;
-    }
-    if fields::place(x, b) >= place {
-        return 0;
-    }
-    if anyone {
-        return 1;
-    }
-    if fields::thread(x, b) == thread { 1 } else { 0 }
+    fields::target(x, b) == monitor
+        && fields::place(x, b) < place
+        && by.is_none_or(|thread| fields::thread(x, b) == thread)
 }
 
-// Before a's place its monitor is held, by a's thread or by anyone. The list has the locks and the unlocks.
-fn held(x: &[u8], list: &[u16; MAX_ACTIONS], count: u16, anyone: bool, a: u16) -> bool
-    requires { Listed (monitoring x.now) (size x.now) list.now count }
-    ensures { result ≡ held x.now a (λ t. anyone || eqb t (thread x.now a)) }
+// Before a's place its monitor is held by the thread, or by anyone where none is named. The list has the locks and the unlocks.
+fn held(x: &[u8], list: &[u16], by: Option<u8>, a: u16) -> bool
+    requires { list.now ≡ positions (monitoring x.now) (size x.now) }
+    ensures { result ≡ held x.now a (admits by) }
 {
     let monitor = fields::target(x, a);
     let place = fields::place(x, a);
-    let thread = fields::thread(x, a);
-    let mut locks = 0;
-    let mut unlocks = 0;
-    for j in 0..count {
-        let b = list[j as usize];
-        locks += counted(x, LOCK, monitor, place, anyone, thread, b);
-        unlocks += counted(x, UNLOCK, monitor, place, anyone, thread, b);
+    let mut locks = 0usize;
+    let mut unlocks = 0usize;
+    for b in list {
+        if counted(x, monitor, place, by, *b) {
+            if fields::kind(x, *b) == Kind::Lock as u8 {
+                locks += 1;
+            } else {
+                unlocks += 1;
+            }
+        }
     }
     unlocks < locks
 }
 
-fn broken13(x: &[u8], list: &[u16; MAX_ACTIONS], count: u16, a: u16) -> bool
-    requires { Listed (monitoring x.now) (size x.now) list.now count }
+fn broken13(x: &[u8], list: &[u16], a: u16) -> bool
+    requires { list.now ≡ positions (monitoring x.now) (size x.now) }
     ensures { result ≡ broken13 x.now a }
 {
-    let kind = fields::kind(x, a);
-    if kind == LOCK {
-        return held(x, list, count, true, a);
+    let Ok(kind) = Kind::try_from(fields::kind(x, a)) else {
+        return false;
+    };
+    match kind {
+        Kind::Lock => held(x, list, None, a),
+        Kind::Unlock => !held(x, list, Some(fields::thread(x, a)), a),
+        _ => false,
     }
-    if kind == UNLOCK {
-        return !held(x, list, count, false, a);
-    }
-    false
 }
 
-// The broken action of least place, in one pass: `below` is the least place so far, over all places at first.
-pub(crate) fn least13(x: &[u8]) -> u16
+// The broken action of least place, and the first of those, in one pass.
+pub(crate) fn least13(x: &[u8]) -> Option<u16>
     requires { size x.now ≤ max_actions }
-    ensures { result ≡ found (size x.now) (least x.now (broken13 x.now)) }
+    ensures { result ≡ position (found (size x.now) (least x.now (broken13 x.now))) }
 {
-    let n = fields::size(x);
-    let list = lists::listed(x, lists::LOCKS);
-    let count = list.count;
-    let mut best = NONE;
-    let mut below: u32 = 65536;
-    for a in 0..n {
-        let place = fields::place(x, a) as u32;
-        if place < below {
-            if broken13(x, &list.at, count, a) {
-                best = a;
-                below = place;
-            }
+    let listed = lists::listed(x, lists::LOCKS);
+    let list = listed.as_slice();
+    let mut best = None;
+    for a in 0..fields::size(x) {
+        if best.is_none_or(|b| fields::place(x, a) < fields::place(x, b)) && broken13(x, list, a) {
+            best = Some(a);
         }
     }
     best

@@ -2,15 +2,15 @@
 ghost use Rattle.std.specs.Prelude.{◌≡◌, ◌≤◌, ◌<◌};
 ghost use Rattle.model.specs.Limits.{max_actions};
 ghost use Rattle.model.specs.Layout.{size};
-ghost use Rattle.model.specs.Search.{found};
+ghost use Rattle.model.specs.Search.{found, position};
 ghost use Rattle.model.specs.Rules.{begun, misstarted, misjoined, broken14};
-ghost use Rattle.positions.specs.Lists.{Listed};
+ghost use Rattle.positions.specs.Lists.{positions};
 ghost use Rattle.positions.specs.Firsts.{firsts};
 ghost use Rattle.positions.specs.declared.firsts.Key.TheVariants.{Thread, Start};
 ghost use Rattle.ordered.specs.Threads.{Lasts, ending};
 
 use answers::NONE;
-use model::MAX_ACTIONS;
+use model::Kind;
 use positions::firsts::{KEYS, Key, firsts};
 use positions::lists;
 
@@ -18,113 +18,85 @@ use positions::lists;
 fn lasts(x: &[u8]) -> [u16; KEYS]
     ensures { Lasts x.now result }
 {
-    let n = fields::size(x);
     let mut last = [0u16; KEYS];
-    for b in 0..n {
+    for b in 0..fields::size(x) {
         last[fields::thread(x, b) as usize] = b;
     }
     last
 }
 
-// The target of the start a has actions, and its first isn't a first action with a larger place.
-fn begun(x: &[u8], first: &[u16; KEYS], a: u16) -> bool
-    requires x_bound { size x.now ≤ max_actions }
-    requires first_value { first.now ≡ firsts x.now Thread }
-    ensures { result ≡ begun x.now a }
-{
-    let b = first[fields::target(x, a) as usize];
-    if b == NONE {
-        return false;
-    }
-    if fields::kind(x, b) != model::FIRST {
-        return true;
-    }
-    fields::place(x, b) <= fields::place(x, a)
+// What is kept of the threads of a section: the first and the last action of each, the first start of each, and the actions of kind 9.
+#[derive(Drop)]
+struct Threads<'a> {
+    x: &'a [u8],
+    first: &'a [u16; KEYS],
+    last: &'a [u16; KEYS],
+    start: &'a [u16; KEYS],
+    ends: &'a [u16],
+    ghost limited: { size x.now ≤ max_actions },
+    ghost have_first: { first.now ≡ firsts x.now Thread },
+    ghost have_last: { Lasts x.now last.now },
+    ghost have_start: { start.now ≡ firsts x.now Start },
+    ghost have_ends: { ends.now ≡ positions (ending x.now) (size x.now) },
 }
 
-fn misstarted(x: &[u8], first: &[u16; KEYS], start: &[u16; KEYS], a: u16) -> bool
-    requires x_bound { size x.now ≤ max_actions }
-    requires a_bound { a < size x.now }
-    requires first_value { first.now ≡ firsts x.now Thread }
-    requires start_value { start.now ≡ firsts x.now Start }
-    ensures { result ≡ misstarted x.now a }
-{
-    let target = fields::target(x, a);
-    if target == fields::thread(x, a) {
-        return true;
+impl<'a> Threads<'a> {
+    // The target of the start a has actions, and its first isn't a first action with a larger place.
+    fn begun(&self, a: u16) -> bool
+        ensures { result ≡ begun self.now.x.now a }
+    {
+        let b = self.first[fields::target(self.x, a) as usize];
+        b != NONE
+            && (fields::kind(self.x, b) != Kind::First as u8
+                || fields::place(self.x, b) <= fields::place(self.x, a))
     }
-    if start[target as usize] < a {
-        return true;
-    }
-    begun(x, first, a)
-}
 
-// The list has the last actions of threads.
-fn misjoined(x: &[u8], list: &[u16; MAX_ACTIONS], count: u16, a: u16) -> bool
-    requires { Listed (ending x.now) (size x.now) list.now count }
-    ensures { result ≡ misjoined x.now a }
-{
-    let target = fields::target(x, a);
-    let place = fields::place(x, a);
-    for j in 0..count {
-        let b = list[j as usize];
-        if fields::thread(x, b) == target {
-            if fields::place(x, b) < place {
-                return false;
-            }
+    fn misstarted(&self, a: u16) -> bool
+        requires { a < size self.now.x.now }
+        ensures { result ≡ misstarted self.now.x.now a }
+    {
+        let target = fields::target(self.x, a);
+        target == fields::thread(self.x, a) || self.start[target as usize] < a || self.begun(a)
+    }
+
+    fn misjoined(&self, a: u16) -> bool
+        ensures { result ≡ misjoined self.now.x.now a }
+    {
+        let target = fields::target(self.x, a);
+        let place = fields::place(self.x, a);
+        !self.ends.iter().any(|b| fields::thread(self.x, *b) == target
+            && fields::place(self.x, *b) < place)
+    }
+
+    fn broken14(&self, a: u16) -> bool
+        requires { a < size self.now.x.now }
+        ensures { result ≡ broken14 self.now.x.now a }
+    {
+        let thread = fields::thread(self.x, a) as usize;
+        let Ok(kind) = Kind::try_from(fields::kind(self.x, a)) else {
+            return false;
+        };
+        match kind {
+            Kind::First => self.first[thread] < a,
+            Kind::Last => a < self.last[thread],
+            Kind::Start => self.misstarted(a),
+            Kind::Join => self.misjoined(a),
+            _ => false,
         }
     }
-    true
 }
 
-fn broken14(
-    x: &[u8],
-    first: &[u16; KEYS],
-    last: &[u16; KEYS],
-    start: &[u16; KEYS],
-    list: &[u16; MAX_ACTIONS],
-    count: u16,
-    a: u16,
-) -> bool
-    requires x_bound { size x.now ≤ max_actions }
-    requires a_bound { a < size x.now }
-    requires first_value { first.now ≡ firsts x.now Thread }
-    requires lasts { Lasts x.now last.now }
-    requires start_value { start.now ≡ firsts x.now Start }
-    requires listed { Listed (ending x.now) (size x.now) list.now count }
-    ensures { result ≡ broken14 x.now a }
-{
-    let kind = fields::kind(x, a);
-    let thread = fields::thread(x, a) as usize;
-    if kind == model::FIRST {
-        return first[thread] < a;
-    }
-    if kind == model::LAST {
-        return a < last[thread];
-    }
-    if kind == model::START {
-        return misstarted(x, first, start, a);
-    }
-    if kind == model::JOIN {
-        return misjoined(x, list, count, a);
-    }
-    false
-}
-
-pub(crate) fn first14(x: &[u8]) -> u16
+pub(crate) fn first14(x: &[u8]) -> Option<u16>
     requires { size x.now ≤ max_actions }
-    ensures { result ≡ found (size x.now) (broken14 x.now) }
+    ensures { result ≡ position (found (size x.now) (broken14 x.now)) }
 {
-    let n = fields::size(x);
-    let first = firsts(x, Key::Thread);
-    let last = lasts(x);
-    let start = firsts(x, Key::Start);
-    let list = lists::listed(x, lists::LASTS);
-    let count = list.count;
-    for a in 0..n {
-        if broken14(x, &first, &last, &start, &list.at, count, a) {
-            return a;
-        }
-    }
-    NONE
+    let ends = lists::listed(x, lists::LASTS);
+    let threads = Threads {
+        x,
+        first: &firsts(x, Key::Thread),
+        last: &lasts(x),
+        start: &firsts(x, Key::Start),
+        ends: ends.as_slice(),
+    };
+    (0..fields::size(x)).find(|a| threads.broken14(*a))
 }

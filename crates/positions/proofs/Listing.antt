@@ -1,182 +1,64 @@
--- A search over a list of positions is the search over the section that asks whether a position is listed.
+-- The positions at which something holds, as a list: what a walk over the list, or a chain, comes to in the searches of the model.
 use Prim.Native.Nat.{ℕ, zero, suc, ◌+◌, ◌<◌, ◌≤◌}
 use native.Mathlib.Numerals.{add-one}
-use native.Mathlib.Nat.{eq-or-lt_of_le, add-zero}
 use native.Mathlib.Omega.{arith}
-use mathlib.Core.Path.{◌≡◌, refl, sym, ◌∙◌}
-use mathlib.Core.Logic.{⊎_elim}
-use mathlib.Core.Bool.{Bool, true, false, cond, ◌&&◌, or-false}
-use mathlib.Core.List.{List}
-use lib.Dec.{eqb, ltb, leb}
-use lib.ListN.{length, replicate, set, get_or, length-set}
-use lib.Seq.{get_or-set_same, get_or-set_other}
-use borrow.Author.Tests.{le-leb, leb-true, ltb-true, lt-ltb, le-ltb, eq-eqb, eqb-true}
+use mathlib.Core.Path.{◌≡◌, refl, sym, ap, ◌∙◌}
+use mathlib.Core.Bool.{Bool, true, false, cond, ◌&&◌, ◌||◌, or-false}
+use mathlib.Core.List.{List, [], ◌∷◌, ◌++◌}
+use lib.Dec.{leb, ltb}
+use lib.ListN.{length, get_or, take}
+use Rattle.std.specs.List.{find, list_any, count_by}
+use Rattle.std.proofs.lemmas.List.Folds.{list_any-append, find-append}
+use borrow.Author.Tests.{leb-true, le-leb, ltb-true, ltb-false}
+use Rattle.std.proofs.lemmas.List.Sums.{sum_by-append}
+use Rattle.std.proofs.lemmas.List.{length-append, get_or_append_left, take-append-le}
+use lib.Seq.{get_or-append_seam, take-append_seam}
+use native.Mathlib.Decide.{dec_lt}
+use Rattle.std.specs.Option.{option_or}
+use Rattle.std.proofs.Common.{Option}
 use Rattle.model.specs.Limits.{max_actions}
-use Rattle.model.specs.Search.{any, first, count}
 use Rattle.model.specs.Layout.{size}
-use Rattle.model.proofs.Bools.{both, same_truth}
-use Rattle.model.proofs.Search.{any_more, any_at, any_elim, count_more, count_le, count_same, first_at, first_none, first_is, first_any, first_least}
-use Rattle.positions.specs.Lists.{of_kinds, within, packed, listed, pick, Listed}
+use Rattle.model.proofs.Options.{below_some, below_none}
+use Rattle.model.specs.Search.{any, first, count, below}
+use Rattle.positions.specs.Lists.{of_kinds, positions, within, listed}
+
+append_none : {A : Type 0} (l : List A) → l ++ [] ≡ l
+append_none [] = refl
+append_none (x ∷ l) = ap (λ m. x ∷ m) (append_none l)
 
 module _ (q : ℕ → Bool) where
-  -- a listed position before n stands before the end of the list of those below n
-  pub count_lt : (n b : ℕ) → b < n → q b ≡ true → count b q < count n q
-  unfolding count
-  count_lt zero b l e = absurd (let z : ⊥ = omega arith in z)
-  count_lt (suc n) b l e =
-      ⊎_elim (λ (z : b ≡ n). rw (← z, e) (omega arith))
-      (λ (z : b < n). let h : count b q < count n q = count_lt n b z e in omega arith)
-      (eq-or-lt_of_le (let z : b ≤ n = omega arith in z))
+  pub positions_none : positions q 0 ≡ []
+  unfolding positions
+  positions_none = refl
 
   -- one position more
-  pub packed_in : (n : ℕ) (l : List ℕ) → q n ≡ true → packed q (n + 1) l ≡ set (packed q n l) (count n q) n
-  unfolding packed
-  packed_in n l e = rw (add-one, e)
+  pub positions_in : (n : ℕ) → q n ≡ true → positions q (n + 1) ≡ positions q n ++ n ∷ []
+  unfolding positions
+  positions_in n e = rw (add-one, e) refl
 
-  pub packed_out : (n : ℕ) (l : List ℕ) → q n ≡ false → packed q (n + 1) l ≡ packed q n l
-  unfolding packed
-  packed_out n l e = rw (add-one, e)
+  pub positions_out : (n : ℕ) → q n ≡ false → positions q (n + 1) ≡ positions q n
+  unfolding positions
+  positions_out n e = rw (add-one, e) (append_none (positions q n))
 
-  length_packed : (n : ℕ) (l : List ℕ) → length (packed q n l) ≡ length l
-  unfolding packed
-  length_packed zero l = refl
-  length_packed (suc n) l = go (length_packed n l) (q n) refl
+  pub length_positions : (n : ℕ) → length (positions q n) ≤ n
+  unfolding positions
+  length_positions zero = omega arith
+  length_positions (suc n) = go (q n) (length_positions n)
     where
-      go : length (packed q n l) ≡ length l → (t : Bool) → q n ≡ t → length (packed q (suc n) l) ≡ length l
-      go h true e = rw e (simp length-set h)
-      go h false e = rw e h
+      go : (b : Bool) → length (positions q n) ≤ n → length (positions q n ++ cond b (n ∷ []) []) ≤ suc n
+      go true h = rw (length-append (positions q n) (n ∷ [])) (omega arith)
+      go false h = rw (append_none (positions q n)) (omega arith)
 
-  -- the entries of the list
-  packed_entry : (n : ℕ) (l : List ℕ) → n ≤ length l → (b : ℕ) → b < n → q b ≡ true → get_or (packed q n l) (count b q) 0 ≡ b
-  unfolding packed
-  packed_entry zero l h b u e = absurd (let z : ⊥ = omega arith in z)
-  packed_entry (suc n) l h b u e =
-      ⊎_elim (λ (z : b ≡ n). rw (← z, e) (get_or-set_same (packed q b l) (count b q) b 0 (rw (length_packed b l) (omega (arith, count_le q b)))))
-      (λ (z : b < n). go (q n) refl z (packed_entry n l (omega arith) b z e))
-      (eq-or-lt_of_le (let z : b ≤ n = omega arith in z))
-    where
-      go : (t : Bool) → q n ≡ t → b < n → get_or (packed q n l) (count b q) 0 ≡ b → get_or (packed q (suc n) l) (count b q) 0 ≡ b
-      go true k z f = rw k (get_or-set_other (packed q n l) (count n q) (count b q) n 0 (λ y. omega (arith, count_lt n b z e)) ∙ f)
-      go false k z f = rw k f
-
-  packed_listed : (n : ℕ) → n ≤ max_actions → Listed q n (packed q n (replicate max_actions 0)) (count n q)
-  packed_listed n h = record { all = refl; few = h; entry = packed_entry n (replicate max_actions 0) h }
-
--- each listed position below n has its entry; entry j is the position with j listed before it
-abbrev Entries : (ℕ → Bool) → List ℕ → ℕ → Type 0
-Entries q l n = (b : ℕ) → b < n → q b ≡ true → get_or l (count b q) 0 ≡ b
-
-abbrev pub Stands : (ℕ → Bool) → List ℕ → ℕ → ℕ → Type 0
-Stands q l n j = (get_or l j 0 < n) × (q (get_or l j 0) ≡ true) × (count (get_or l j 0) q ≡ j)
-
-entry_at : (q : ℕ → Bool) (l : List ℕ) (n : ℕ) → Entries q l n → (j : ℕ) → j < count n q → Stands q l n j
-unfolding count
-entry_at q l zero f j u = absurd (let z : ⊥ = omega arith in z)
-entry_at q l (suc n) f j u = go (λ z. wider (entry_at q l n (λ b k. f b (omega arith)) j z)) (q n) refl
-  where
-    wider : Stands q l n j → Stands q l (suc n) j
-    wider r = (omega (arith, r.0), r.1, r.2)
-
-    go : (j < count n q → Stands q l (suc n) j) → (t : Bool) → q n ≡ t → Stands q l (suc n) j
-    go rest true e =
-        ⊎_elim (λ (z : j ≡ count n q). rw (z, f n (omega arith) e) (omega arith, e, refl)) rest
-        (eq-or-lt_of_le (let z : j ≤ count n q = omega (arith, rw e at u) in z))
-    go rest false e = rest (omega (arith, rw e at u))
-
--- what a list has
-module _ {q : ℕ → Bool} {n : ℕ} {l : List ℕ} {m : ℕ} (h : Listed q n l m) where
-  pub listed_upto : m ≤ n
-  listed_upto = omega (arith, h.all, count_le q n)
-
-  pub listed_fits : m ≤ max_actions
-  listed_fits = omega (arith, listed_upto, h.few)
-
-  pub listed_at : (j : ℕ) → j < m → Stands q l n j
-  listed_at j u = entry_at q l n h.entry j (rw h.all at u)
-
-  -- a list for one test is a list for each that agrees with it
-  pub listed_same : {p : ℕ → Bool} → ((b : ℕ) → q b ≡ p b) → Listed p n l m
-  listed_same {p} f =
-      record {
-        all = h.all ∙ count_same q p n (λ b u. f b);
-        few = h.few;
-        entry = λ b u e. rw (← count_same q p b (λ c v. f c)) (h.entry b u (f b ∙ e));
-      }
-
--- the searches, for a test p of the positions in the list l
-module _ (q p : ℕ → Bool) (l : List ℕ) where
-  abbrev pub at : ℕ → Bool
-  at j = p (get_or l j 0)
-
-  abbrev admitted : ℕ → Bool
-  admitted b = q b && p b
-
-  any_count : (n : ℕ) → Entries q l n → any n admitted ≡ any (count n q) at
-  unfolding any count
-  any_count zero f = refl
-  any_count (suc n) f = go (any_count n (λ b u. f b (omega arith))) (q n) refl
-    where
-      go : any n admitted ≡ any (count n q) at → (t : Bool) → q n ≡ t → any (suc n) admitted ≡ any (count (suc n) q) at
-      go rest true e = rw (e, any_more at (count n q), f n (omega arith) e, rest)
-      go rest false e = rw (e, add-zero, ← rest) (or-false (any n admitted))
-
-  count_count : (n : ℕ) → Entries q l n → count n admitted ≡ count (count n q) at
-  unfolding count
-  count_count zero f = refl
-  count_count (suc n) f = go (count_count n (λ b u. f b (omega arith))) (q n) refl
-    where
-      go : count n admitted ≡ count (count n q) at → (t : Bool) → q n ≡ t → count (suc n) admitted ≡ count (count (suc n) q) at
-      go rest true e = rw (e, count_more at (count n q), f n (omega arith) e, rest)
-      go rest false e = rw (e, add-zero (count n admitted), add-zero (count n q)) rest
-
-  module _ {n m : ℕ} (h : Listed q n l m) where
-    pub any_listed : any n admitted ≡ any m at
-    any_listed = rw h.all (any_count n h.entry)
-
-    pub count_listed : count n admitted ≡ count m at
-    count_listed = rw h.all (count_count n h.entry)
-
-    -- the entries up to position b are those that are listed up to it
-    pub any_upto : (b : ℕ) → b ≤ n → any b admitted ≡ any (count b q) at
-    any_upto b u = any_count b (λ c z. h.entry c (omega arith))
-
-    -- the first entry that passes, or none
-    first_listed : (j : ℕ) → j < m → any j at ≡ false → at j ≡ true → first n admitted ≡ get_or l j 0
-    first_listed j u k e =
-        let (inside, listed, number) = listed_at h j u in
-        first_at admitted n (get_or l j 0) inside (any_upto (get_or l j 0) (omega arith) ∙ rw number k) (rw listed e)
-
-    pub pick_listed : pick l m n p ≡ first n admitted
-    unfolding pick
-    pick_listed = sym (go (ltb (first m at) m) refl)
-      where
-        go : (t : Bool) → ltb (first m at) m ≡ t → first n admitted ≡ cond t (get_or l (first m at) 0) n
-        go true e =
-            let u : first m at < m = ltb-true (first m at) m e in
-            first_listed (first m at) u (first_least at m) ((first_is at m).holds u)
-        go false e = first_none admitted n (any_listed ∙ sym (first_any at m) ∙ e)
-
--- c stands in the list exactly where it is a position that the test admits
-pub listed_has : {q : ℕ → Bool} {n : ℕ} {l : List ℕ} {m : ℕ} → Listed q n l m → (c : ℕ) → any m (λ i. eqb c (get_or l i 0)) ≡ ltb c n && q c
-listed_has {q} {n} {l} h c = sym (any_listed q (eqb c) l h) ∙ same_truth (any n own) (ltb c n && q c) there back
-  where
-    own : ℕ → Bool
-    own b = q b && eqb c b
-
-    there : any n own ≡ true → ltb c n && q c ≡ true
-    there e =
-        any_elim own n e
-        (λ b u k. let (listed, same) = both (q b) (eqb c b) k in rw (eqb-true c b same, lt-ltb b n u) listed)
-
-    back : ltb c n && q c ≡ true → any n own ≡ true
-    back e =
-        let (below, listed) = both (ltb c n) (q c) e in
-        any_at own n c (ltb-true c n below) (rw (listed, eq-eqb c c refl))
+-- the same positions
+pub positions_same : {q p : ℕ → Bool} → ((b : ℕ) → q b ≡ p b) → (n : ℕ) → positions q n ≡ positions p n
+unfolding positions
+positions_same is zero = refl
+positions_same is (suc n) = rw (positions_same is n, is n) refl
 
 -- the list of a set of kinds, of which `is` says what it is in the model's words (proofs/Sets.antt)
-pub is_listed : (x : List ℕ) (s : ℕ) {p : ℕ → Bool} → ((b : ℕ) → of_kinds x s b ≡ p b) → size x ≤ max_actions → Listed p (size x) (listed x s).at (listed x s).count
+pub is_listed : (x : List ℕ) (s : ℕ) {p : ℕ → Bool} → ((b : ℕ) → of_kinds x s b ≡ p b) → size x ≤ max_actions → listed x s ≡ positions p (size x)
 unfolding listed
-is_listed x s is h = listed_same (rw (le-leb (size x) max_actions h) (packed_listed (of_kinds x s) (size x) h)) is
+is_listed x s is h = rw (le-leb (size x) max_actions h) (positions_same is (size x))
 
 pub within_fits : (x : List ℕ) → within x ≤ max_actions
 within_fits x = go (leb (size x) max_actions) refl
@@ -185,12 +67,79 @@ within_fits x = go (leb (size x) max_actions) refl
     go true e = leb-true (size x) max_actions e
     go false e = omega arith
 
--- where the list says what is first
-module _ (l : List ℕ) (m n : ℕ) (p : ℕ → Bool) where
-  pub pick_at : (j : ℕ) → j < m → any j (λ i. p (get_or l i 0)) ≡ false → p (get_or l j 0) ≡ true → pick l m n p ≡ get_or l j 0
-  unfolding pick
-  pick_at j u h e = rw (first_at (λ i. p (get_or l i 0)) m j u h e, lt-ltb j m u)
+module _ (q test : ℕ → Bool) where
+  abbrev admitted : ℕ → Bool
+  admitted b = q b && test b
 
-  pub pick_none : any m (λ i. p (get_or l i 0)) ≡ false → pick l m n p ≡ n
-  unfolding pick
-  pick_none h = rw (first_none (λ i. p (get_or l i 0)) m h, le-ltb m m (omega arith))
+  -- the last position by itself
+  tail : ℕ → List ℕ
+  tail n = cond (q n) (n ∷ []) []
+
+  any_positions : (n : ℕ) → list_any test (positions q n) ≡ any n admitted
+  unfolding positions any tail
+  any_positions zero = refl
+  any_positions (suc n) = rw (list_any-append test (positions q n) (tail n), any_positions n) (ap (λ t. any n admitted || t) (go (q n)))
+    where
+      go : (b : Bool) → list_any test (cond b (n ∷ []) []) ≡ b && test n
+      go true = or-false (test n)
+      go false = refl
+
+  first_more : (n : ℕ) → first (suc n) admitted ≡ cond (ltb (first n admitted) n) (first n admitted) (cond (q n && test n) n (suc n))
+  unfolding first
+  first_more n = refl
+
+  -- where none before is admitted, the last position is looked at
+  find_last : (n : ℕ) (b : Bool) → q n ≡ b → (c : Bool) → test n ≡ c → find test (cond b (n ∷ []) []) ≡ below (suc n) (cond (b && c) n (suc n))
+  find_last n true e true h = rw h (sym (below_some (omega arith)))
+  find_last n true e false h = rw h (sym (below_none (omega arith)))
+  find_last n false e c h = sym (below_none (omega arith))
+
+  find_positions : (n : ℕ) → find test (positions q n) ≡ below n (first n admitted)
+  unfolding positions first
+  find_positions zero = sym (below_none (omega arith))
+  find_positions (suc n) =
+      find-append test (positions q n) (cond (q n) (n ∷ []) []) ∙ rw (find_positions n, first_more n) (go (ltb (first n admitted) n) refl)
+    where
+      go : (b : Bool) → ltb (first n admitted) n ≡ b → option_or (below n (first n admitted)) (find test (cond (q n) (n ∷ []) [])) ≡ below (suc n) (cond b (first n admitted) (cond (q n && test n) n (suc n)))
+      go true e = let l : first n admitted < n = ltb-true (first n admitted) n e in rw (below_some l) (sym (below_some (omega arith)))
+      go false e = let l : n ≤ first n admitted = ltb-false (first n admitted) n e in rw (below_none l) (find_last n (q n) refl (test n) refl)
+
+  count_positions : (n : ℕ) → count_by test (positions q n) ≡ count n admitted
+  unfolding positions count tail
+  count_positions zero = refl
+  count_positions (suc n) =
+      sum_by-append (λ b. cond (test b) 1 0) (positions q n) (tail n) ∙ rw (count_positions n) (ap (λ t. count n admitted + t) (go (q n)))
+    where
+      go : (b : Bool) → count_by test (cond b (n ∷ []) []) ≡ cond (b && test n) 1 0
+      go true = omega arith
+      go false = refl
+
+  -- entry k of the list is a position that is listed, and those before it stand before it
+  pub positions_at : (n k : ℕ) → k < length (positions q n) → (get_or (positions q n) k 0 < n) × (q (get_or (positions q n) k 0) ≡ true) × (take k (positions q n) ≡ positions q (get_or (positions q n) k 0))
+  unfolding positions
+  positions_at zero k l = absurd (let z : ⊥ = omega arith in z)
+  positions_at (suc n) k l = go (λ u. positions_at n k u) (q n) refl l
+    where
+      go : (k < length (positions q n) → (get_or (positions q n) k 0 < n) × (q (get_or (positions q n) k 0) ≡ true) × (take k (positions q n) ≡ positions q (get_or (positions q n) k 0))) → (b : Bool) → q n ≡ b → k < length (positions q n ++ cond b (n ∷ []) []) → (get_or (positions q n ++ cond b (n ∷ []) []) k 0 < suc n) × (q (get_or (positions q n ++ cond b (n ∷ []) []) k 0) ≡ true) × (take k (positions q n ++ cond b (n ∷ []) []) ≡ positions q (get_or (positions q n ++ cond b (n ∷ []) []) k 0))
+      go rest true e h =
+          elim (dec_lt k (length (positions q n))) [
+            | yes u ↦
+                let z : _ = rest u in
+                rw (get_or_append_left (positions q n) (n ∷ []) 0 k u, take-append-le k (positions q n) (n ∷ []) (omega arith)) (omega (arith, z.0), z.1, z.2)
+            | no u ↦
+                let d : k ≡ length (positions q n) = omega (arith, rw (length-append (positions q n) (n ∷ [])) at h) in
+                rw (d, get_or-append_seam (positions q n) n [] 0, take-append_seam (positions q n) (n ∷ [])) (omega arith, e, refl)
+          ]
+      go rest false e h =
+          let z : _ = rest (rw (append_none (positions q n)) at h) in rw (append_none (positions q n)) (omega (arith, z.0), z.1, z.2)
+
+-- A chain over such a list, of which l is what the code got
+module _ (q test : ℕ → Bool) (n : ℕ) {l : List ℕ} (e : l ≡ positions q n) where
+  pub any_listed : {r : Bool} → r ≡ list_any test l → r ≡ any n (λ b. q b && test b)
+  any_listed h = h ∙ rw e (any_positions q test n)
+
+  pub find_listed : {r : Option ℕ} → r ≡ find test l → r ≡ below n (first n (λ b. q b && test b))
+  find_listed h = h ∙ rw e (find_positions q test n)
+
+  pub count_listed : {r : ℕ} → r ≡ count_by test l → r ≡ count n (λ b. q b && test b)
+  count_listed h = h ∙ rw e (count_positions q test n)

@@ -7,16 +7,17 @@ use mathlib.Core.Path.{◌≡◌, refl, sym}
 use mathlib.Core.List.{List}
 use mathlib.Core.Bool.{Bool, false, not, ◌||◌, beq}
 use lib.Dec.{eqb, lit<}
-use lib.ListN.{get_or-eq_default}
 use lib.Pow.{pow_mono}
 use borrow.Author.Tests.{ne_eqb, not-false}
 use Rattle.model.specs.Search.{any}
-use Rattle.model.specs.Kinds.{nothing_taken, no_kind_row, kinds, kind_row}
+use Rattle.model.specs.declared.Class.TheVariants as class
+use Rattle.model.specs.Kinds.{same_class, kind_row}
 use Rattle.model.specs.Layout.{kind, row, sync, write}
 use Rattle.model.specs.Relations.{plain}
 use Rattle.model.proofs.Bools.{same_bool}
 use Rattle.model.proofs.Search.{any_not}
 use Rattle.model.proofs.Words.{on}
+use Rattle.model.proofs.Synchronizes.{past_table}
 use Rattle.positions.specs.Lists.{writes, plains, locks, lasts, takers, syncs, of_kinds}
 
 -- a set and a test of kinds that agree on the twelve rows of the table, where the test fails past them
@@ -29,22 +30,18 @@ set_is s p small agree past k =
           let l : s < 2 ^ k = omega (arith, pow_mono h) in rw (div-eq_of_lt l) (sym (past k h))
     ]
 
-no_row : (k : ℕ) → 12 ≤ k → kind_row k ≡ no_kind_row
-unfolding kind_row
-no_row k h = get_or-eq_default kinds no_kind_row h
-
 module _ (x : List ℕ) (b : ℕ) where
   pub are_writes : of_kinds x writes b ≡ write x b
   unfolding of_kinds any kind_row
-  are_writes = set_is writes (λ k. (kind_row k).write) (lit< tt) refl (λ k h. rw (no_row k h)) (kind x b)
+  are_writes = set_is writes (λ k. (kind_row k).write) (lit< tt) refl (λ k h. rw (past_table k h)) (kind x b)
 
   pub are_syncs : of_kinds x syncs b ≡ sync x b
   unfolding of_kinds any kind_row
-  are_syncs = set_is syncs (λ k. (kind_row k).sync) (lit< tt) refl (λ k h. rw (no_row k h)) (kind x b)
+  are_syncs = set_is syncs (λ k. (kind_row k).sync) (lit< tt) refl (λ k h. rw (past_table k h)) (kind x b)
 
-  pub are_takers : of_kinds x takers b ≡ not (eqb (row x b).takes.class nothing_taken)
+  pub are_takers : of_kinds x takers b ≡ not (same_class (row x b).takes.class class.NothingTaken)
   unfolding of_kinds any kind_row
-  are_takers = set_is takers (λ k. not (eqb (kind_row k).takes.class nothing_taken)) (lit< tt) refl (λ k h. rw (no_row k h)) (kind x b)
+  are_takers = set_is takers (λ k. not (same_class (kind_row k).takes.class class.NothingTaken)) (lit< tt) refl (λ k h. rw (past_table k h)) (kind x b)
 
   pub are_plain : of_kinds x plains b ≡ plain x b
   unfolding of_kinds any

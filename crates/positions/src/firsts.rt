@@ -5,6 +5,7 @@ ghost use Rattle.positions.specs.Firsts.{keys, key_of, firsts};
 
 use crate::lists;
 use answers::NONE;
+use model::Kind;
 
 // The keys of a table: a thread's and a target's byte, and every place that rule 11 admits.
 pub const KEYS: usize = 256;
@@ -32,7 +33,7 @@ fn place_key(x: &[u8], b: u16) -> u16
 fn start_key(x: &[u8], b: u16) -> u16
     ensures { result ≡ cond (eqb (kind x.now b) 7) (target x.now b) keys }
 {
-    if fields::kind(x, b) == model::START {
+    if fields::kind(x, b) == Kind::Start as u8 {
         fields::target(x, b) as u16
     } else {
         KEYS as u16

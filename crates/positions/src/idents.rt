@@ -9,10 +9,7 @@ pub fn position_of(x: &[u8], first: &[u16; KEYS], d: u16) -> u16
     ensures { result ≡ from_slot x.now first.now d }
 {
     let n = fields::size(x);
-    for a in first[d as usize % KEYS]..n {
-        if fields::ident(x, a) == d {
-            return a;
-        }
-    }
-    n
+    (first[d as usize % KEYS]..n)
+        .find(|a| fields::ident(x, *a) == d)
+        .unwrap_or(n)
 }

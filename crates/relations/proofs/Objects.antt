@@ -2,16 +2,18 @@
 use Prim.Native.Nat.{ℕ}
 use mathlib.Core.Path.{◌≡◌, refl, sym, ◌∙◌}
 use mathlib.Core.List.{List}
-use mathlib.Core.Bool.{true, false, not, ◌&&◌, ◌||◌}
+use mathlib.Core.Bool.{Bool, true, false, not, cond, ◌&&◌, ◌||◌}
 use lib.Dec.{eqb, ltb}
 use borrow.Author.Tests.{eqb-true, not-true}
+use Rattle.model.specs.declared.Objects.{Objects}
 use Rattle.model.specs.Search.{any}
-use Rattle.model.specs.Kinds.{kind_row, nothing_given, nothing_taken}
-use Rattle.model.specs.Layout.{kind, place, row}
-use Rattle.model.specs.Relations.{sw, hands, tabled_sw}
-use Rattle.model.proofs.Bools.{both}
+use Rattle.model.specs.Kinds.{kind_row, number_of, same_class}
+use Rattle.model.specs.declared.Class.TheVariants.{NothingGiven, NothingTaken}
+use Rattle.model.specs.Layout.{thread, kind, target, place, row}
+use Rattle.model.specs.Relations.{number, sw, hands, tabled_sw}
+use Rattle.model.proofs.Bools.{both, neither}
 use Rattle.model.proofs.Synchronizes.{sw_table, every_row}
-use Rattle.relations.specs.Objects.{given, taken, key, offered, accepts}
+use Rattle.relations.specs.Objects.{given, taken, key, offered, near, accepts}
 
 module _ (x : List ℕ) (a b : ℕ) where
   pub accepts_sw : accepts x (offered x a) b ≡ sw x a b
@@ -29,18 +31,26 @@ module _ (x : List ℕ) (a b : ℕ) where
 
 -- what is nothing is neither taken nor given
 module _ (x : List ℕ) (a : ℕ) where
-  untaken : eqb nothing_given (taken x a).class ≡ false
+  untaken : eqb (number_of NothingGiven) (taken x a).class ≡ false
   unfolding taken any kind_row
-  untaken = not-true _ (every_row (λ k. not (eqb nothing_given k.takes.class)) refl (kind x a))
+  untaken = not-true _ (every_row (λ k. not (same_class NothingGiven k.takes.class)) refl (kind x a))
 
-  ungiven : eqb (given x a).class nothing_taken ≡ false
+  ungiven : eqb (given x a).class (number_of NothingTaken) ≡ false
   unfolding given any kind_row
-  ungiven = not-true _ (every_row (λ k. not (eqb k.gives.class nothing_taken)) refl (kind x a))
+  ungiven = not-true _ (every_row (λ k. not (same_class k.gives.class NothingTaken)) refl (kind x a))
 
-pub sw_nothing_given : (x : List ℕ) (a b : ℕ) → (given x a).class ≡ nothing_given → sw x a b ≡ false
+pub sw_nothing_given : (x : List ℕ) (a b : ℕ) → (given x a).class ≡ number_of NothingGiven → sw x a b ≡ false
 unfolding given taken tabled_sw hands
 sw_nothing_given x a b e = sw_table x a b ∙ rw (e, untaken x b)
 
-pub sw_nothing_taken : (x : List ℕ) (a b : ℕ) → (taken x b).class ≡ nothing_taken → sw x a b ≡ false
+pub sw_nothing_taken : (x : List ℕ) (a b : ℕ) → (taken x b).class ≡ number_of NothingTaken → sw x a b ≡ false
 unfolding given taken tabled_sw hands
 sw_nothing_taken x a b e = sw_table x a b ∙ rw (e, ungiven x a)
+
+-- a number is that of the thread or of the target
+pub far : (x : List ℕ) (v b : ℕ) → near x v b ≡ false → (o : Objects) → eqb v (number o x b) ≡ false
+far x v b h o = let (p, q) = neither (eqb v (target x b)) (eqb v (thread x b)) h in go o.own p q
+  where
+    go : (t : Bool) → eqb v (target x b) ≡ false → eqb v (thread x b) ≡ false → eqb v (cond t (thread x b) (target x b)) ≡ false
+    go true p q = q
+    go false p q = p

@@ -2,14 +2,14 @@
 #![tactic(auto)]
 
 ghost use Rattle.std.specs.Prelude.{◌≡◌};
-ghost use Rattle.model.specs.Relations.{po, number, sw};
-ghost use Rattle.relations.specs.Objects.{given, taken, offered, near, accepts, key};
+ghost use Rattle.model.specs.Relations.{po, sw};
+ghost use Rattle.relations.specs.Objects.{object_of, given, taken, offered, same_object, near, accepts, key};
 
-use fields::{kind, place, target, thread};
+use fields::{kind, own_or_target, place, target, thread};
 use model::Objects;
 use table::{gives, takes};
 
-// An object by which actions synchronize.
+// An object by which actions synchronize: its class by the number that `key` has of it.
 #[derive(Clone, Copy)]
 pub struct Object {
     pub class: u8,
@@ -19,39 +19,33 @@ pub struct Object {
 // What an action offers to later ones: its object, and whether they take it at larger places alone.
 #[derive(Clone, Copy)]
 pub struct Offer {
-    pub class: u8,
-    pub number: u8,
+    pub object: Object,
     pub placed: bool,
     pub place: u16,
 }
 
-// The number of a's object. Both fields are loaded and one is chosen: kinds follow one another as they please, and no way is taken by them.
-fn number(o: Objects, x: &[u8], a: u16) -> u8
-    ensures { result ≡ number o x.now a }
+// The object of a that o tells.
+fn object_of(o: Objects, x: &[u8], a: u16) -> Object
+    ensures { result ≡ object_of o x.now a }
 {
-    let t = thread(x, a);
-    let u = target(x, a);
-    if o.own { t } else { u }
+    Object {
+        class: o.class as u8,
+        number: own_or_target(x, a, o.own),
+    }
 }
 
+#[tactic(auto, unfolding(crate::specs::Objects::given))]
 pub fn given(x: &[u8], a: u16) -> Object
     ensures { result ≡ given x.now a }
 {
-    let o = gives(kind(x, a));
-    Object {
-        class: o.class,
-        number: number(o, x, a),
-    }
+    object_of(gives(kind(x, a)), x, a)
 }
 
+#[tactic(auto, unfolding(crate::specs::Objects::taken))]
 pub fn taken(x: &[u8], a: u16) -> Object
     ensures { result ≡ taken x.now a }
 {
-    let o = takes(kind(x, a));
-    Object {
-        class: o.class,
-        number: number(o, x, a),
-    }
+    object_of(takes(kind(x, a)), x, a)
 }
 
 // One number for each object.
@@ -61,14 +55,14 @@ pub fn key(o: Object) -> u16
     256 * (o.class as u16) + o.number as u16
 }
 
+#[tactic(auto, unfolding(crate::specs::Objects::offered))]
 pub fn offered(x: &[u8], a: u16) -> Offer
     ensures { result ≡ offered x.now a }
 {
-    let o = gives(kind(x, a));
+    let gives = gives(kind(x, a));
     Offer {
-        class: o.class,
-        number: number(o, x, a),
-        placed: o.placed,
+        object: object_of(gives, x, a),
+        placed: gives.placed,
         place: place(x, a),
     }
 }
@@ -77,43 +71,37 @@ pub fn offered(x: &[u8], a: u16) -> Offer
 fn near(x: &[u8], v: u8, b: u16) -> bool
     ensures { result ≡ near x.now v b }
 {
-    if v == target(x, b) {
-        return true;
-    }
-    v == thread(x, b)
+    v == target(x, b) || v == thread(x, b)
 }
 
-// Whether b takes what is offered. Most pairs differ in the number, which is asked first and without the kind.
+// Whether b takes the object. Most pairs differ in the number, which is asked first and without the kind, and then in the class.
+#[tactic(auto, using(crate::proofs::Objects::far), unfolding(crate::specs::Objects::taken))]
+fn is_taken(x: &[u8], o: Object, b: u16) -> bool
+    ensures { result ≡ same_object o (taken x.now b) }
+{
+    if !near(x, o.number, b) {
+        return false;
+    }
+    let takes = takes(kind(x, b));
+    o.class == takes.class as u8 && o.number == own_or_target(x, b, takes.own)
+}
+
+// Whether b takes what is offered.
+#[tactic(auto, unfolding(crate::specs::Objects::accepts))]
 pub fn accepts(x: &[u8], w: Offer, b: u16) -> bool
     ensures { result ≡ accepts x.now w b }
 {
-    if !near(x, w.number, b) {
-        return false;
-    }
-    let o = takes(kind(x, b));
-    if w.class != o.class {
-        return false;
-    }
-    if w.number != number(o, x, b) {
-        return false;
-    }
-    if w.placed {
-        w.place < place(x, b)
-    } else {
-        true
-    }
+    is_taken(x, w.object, b) && (!w.placed || w.place < place(x, b))
 }
 
+#[tactic(auto, unfolding(model::specs::Relations::po))]
 pub fn po(x: &[u8], a: u16, b: u16) -> bool
     ensures { result ≡ po x.now a b }
 {
-    if a < b {
-        thread(x, a) == thread(x, b)
-    } else {
-        false
-    }
+    a < b && thread(x, a) == thread(x, b)
 }
 
+#[tactic(auto, using(crate::proofs::Objects::accepts_sw))]
 pub fn sw(x: &[u8], a: u16, b: u16) -> bool
     ensures { result ≡ sw x.now a b }
 {

@@ -1,6 +1,5 @@
-pub mod Listed
 pub mod Sources
-pub mod Hiding
 pub mod Latest
+pub mod Hiding
 pub mod Pairs
 pub mod Unique

@@ -1,75 +1,129 @@
--- 31: what races with a plain access a, as a test of the plain accesses listed after it, and the least pair.
-use Prim.Native.Nat.{ℕ, ◌+◌, ◌<◌, ◌≤◌}
-use native.Mathlib.Decide.{dec_lt}
+-- 31: the least pair in the list of the plain accesses is the least that races.
+use Prim.Native.Nat.{ℕ, zero, suc, ◌+◌, ◌<◌, ◌≤◌}
+use native.Mathlib.Numerals.{add-one}
+use native.Mathlib.Nat.{eq-or-lt_of_le}
 use native.Mathlib.Omega.{arith}
-use mathlib.Core.Path.{◌≡◌, sym, ◌∙◌}
-use mathlib.Core.Bool.{Bool, true, false, not, ◌&&◌, ◌||◌, and-false}
-use mathlib.Core.List.{List}
-use lib.Dec.{eqb, ltb}
-use lib.ListN.{get_or}
-use borrow.Author.Tests.{lt-ltb, le-ltb}
+use mathlib.Core.Path.{◌≡◌, refl, sym, ap, ◌∙◌}
+use mathlib.Core.Logic.{⊎_elim}
+use mathlib.Core.Bool.{Bool, true, false, not, cond, ◌&&◌, ◌||◌, and_assoc, and-false}
+use mathlib.Core.List.{List, [], ◌∷◌, ◌++◌}
+use lib.Dec.{eqb, leb, ltb}
+use lib.ListN.{length}
+use borrow.Author.Tests.{le-leb, lt-leb}
+use Rattle.std.specs.Prelude.{Some, None}
+use Rattle.std.specs.List.{find}
 use Rattle.model.specs.Limits.{max_actions}
-use Rattle.model.specs.Search.{any, first}
-use Rattle.model.specs.Answers.{answer}
+use Rattle.model.specs.Search.{any, first, none, below, found₂}
+use Rattle.model.specs.Answers.{checked, named₂}
 use Rattle.model.specs.Layout.{size, target, write}
 use Rattle.model.specs.Relations.{plain, race}
 use Rattle.model.specs.Rules.{racing}
-use Rattle.model.proofs.Search.{any_never, first_is, first_any, first_least, count_more}
-use Rattle.model.proofs.Answers.{rule₂_at}
-use Rattle.positions.specs.Lists.{Listed}
-use Rattle.positions.proofs.Listing.{count_lt, listed_at, any_upto}
-use Rattle.model.proofs.Scan.{Scanned}
-use Rattle.rules.specs.Searches.{later_race, plains_upto}
+use Rattle.model.proofs.Search.{any_none, any_pass, any_never, any_first, first_same, first_none}
+use Rattle.model.proofs.Answers.{rule₂_same}
+use Rattle.positions.specs.Lists.{positions}
+use Rattle.positions.proofs.Listing.{positions_same, find_listed}
+use Rattle.model.proofs.Options.{below_some, below_none, pair_none, pair_first}
+use Rattle.model.proofs.Checks.{checked_rule₂}
+use Rattle.rules.specs.Searches.{races, least_pair}
 
-module _ (h : ℕ → ℕ → Bool) (x : List ℕ) where
-  -- a races with a later action
-  abbrev pub paired : ℕ → Bool
-  paired a = any (size x) (later_race h x a)
+-- the positions from a on at which q holds
+abbrev from : (ℕ → Bool) → ℕ → ℕ → Bool
+from q a b = leb a b && q b
 
-  module _ (a : ℕ) where
-    -- only plain accesses race
-    pub races_plain : (b : ℕ) → plain x b ≡ false → later_race h x a b ≡ false
-    unfolding later_race race
-    races_plain b e = rw (e, and-false (plain x a)) (and-false (ltb a b))
+module _ (q : ℕ → Bool) where
+  from_past : (n a : ℕ) → n ≤ a → positions (from q a) n ≡ []
+  unfolding positions
+  from_past zero a h = refl
+  from_past (suc n) a h = rw (from_past n a (omega arith), lt-leb a n (omega arith)) refl
 
-    pub pair_plain : plain x a ≡ false → paired a ≡ false
-    unfolding later_race race
-    pair_plain e = any_never (later_race h x a) (size x) (λ b u. rw e (and-false (ltb a b)))
+  -- a stands before those after it, if it is one
+  from_next : (n a : ℕ) → a < n → positions (from q a) n ≡ cond (q a) (a ∷ positions (from q (suc a)) n) (positions (from q (suc a)) n)
+  unfolding positions
+  from_next zero a h = absurd (let z : ⊥ = omega arith in z)
+  from_next (suc n) a h =
+      ⊎_elim
+      (λ (e : a ≡ n).
+      rw (from_past n a (omega arith), from_past n (suc a) (omega arith), e, le-leb n n (omega arith), lt-leb (suc n) n (omega arith))
+      refl)
+      (λ (l : a < n).
+      rw (from_next n a l, le-leb a n (omega arith), le-leb (suc a) n (omega arith))
+      (go (q a) (positions (from q (suc a)) n) (cond (q n) (n ∷ []) [])))
+      (eq-or-lt_of_le (let z : a ≤ n = omega arith in z))
+    where
+      go : (b : Bool) (l m : List ℕ) → cond b (a ∷ l) l ++ m ≡ cond b (a ∷ (l ++ m)) (l ++ m)
+      go true l m = refl
+      go false l m = refl
 
-    module _ {b : ℕ} (e : b ≡ first (size x) (later_race h x a)) where
-      pub pair_none : size x ≤ b → paired a ≡ false
-      pair_none u = sym (first_any (later_race h x a) (size x)) ∙ rw (← e) (le-ltb b (size x) u)
+-- what the code tests
+pub races_are :
+    (h : ℕ → ℕ → Bool) (x : List ℕ) (a : ℕ) (l : List ℕ) {v : ℕ} {w : Bool} → v ≡ target x a → w ≡ write x a →
+    find (λ b. eqb v (target x b) && (w || write x b) && (not (h a b) && not (h b a))) l ≡ find (races h x a) l
+unfolding races
+races_are h x a l e q = rw (e, q) refl
 
-      pub pair_at : size x ≤ max_actions → a < size x → b < size x → any a paired ≡ false → answer 31 0 a b ≡ racing h x
-      unfolding racing later_race
-      pair_at few u v before =
-          let here : later_race h x a b ≡ true = rw e ((first_is (later_race h x a) (size x)).holds (rw e at v)) in
-          sym (rule₂_at 31 0 (size x) (later_race h x) a b (omega arith) u v before (rw e (first_least (later_race h x a) (size x))) here)
+-- the first entry has a later one, or not
+module _ (t : ℕ → ℕ → Bool) (a : ℕ) (l : List ℕ) where
+  pub pair_here : {b : ℕ} → find (t a) l ≡ Some b → least_pair t (a ∷ l) ≡ Some (a, b)
+  unfolding least_pair
+  pair_here h = rw (h, least_pair) refl
 
-    module _ {l : List ℕ} {m from : ℕ} (u : a < size x) (e : plain x a ≡ true) (listed : Listed (plain x) (size x) l m) (f : from ≡ plains_upto x a) where
-      -- none in the list up to a comes after it
-      pub upto_passed : Scanned (λ i. later_race h x a (get_or l i 0)) m from
-      unfolding later_race
-      upto_passed = record {
-        within = omega (arith, f, rw e at (count_more (plain x) a), listed.all, count_lt (plain x) (size x) a u e);
-        nowhere =
-            rw f
-            (sym (any_upto (plain x) (later_race h x a) l listed (a + 1) (omega arith))
-            ∙ any_never _ (a + 1) (λ b k. rw (le-ltb a b (omega arith)) (and-false (plain x b))));
-      }
+  pub pair_later : find (t a) l ≡ None → least_pair t (a ∷ l) ≡ least_pair t l
+  unfolding least_pair
+  pair_later h = rw (h, least_pair) refl
 
-      -- each after those does
-      later : (j : ℕ) → from ≤ j → j < m → a < get_or l j 0
-      later j k v =
-          let (inside, is, number) = listed_at listed j v in
-          elim (dec_lt a (get_or l j 0)) [
-            | yes z ↦ z
-            | no g ↦ absurd (let z : ⊥ = omega (arith, f, number, count_lt (plain x) (a + 1) (get_or l j 0) (omega arith) is) in z)
-          ]
+pub pair_nowhere : (t : ℕ → ℕ → Bool) (l : List ℕ) → length l ≡ 0 → least_pair t l ≡ None
+unfolding least_pair
+pair_nowhere t [] h = refl
+pair_nowhere t (a ∷ l) h = absurd (let z : ⊥ = omega arith in z)
 
-      pub races_is :
-          (j : ℕ) → from ≤ j → j < m → {v : ℕ} {w : Bool} → v ≡ target x a → w ≡ write x a →
-          eqb v (target x (get_or l j 0)) && (w || write x (get_or l j 0)) && not (h a (get_or l j 0)) && not (h (get_or l j 0) a)
-          ≡ later_race h x a (get_or l j 0)
-      unfolding later_race race
-      races_is j k z q r = rw (q, r, lt-ltb a (get_or l j 0) (later j k z), e, (listed_at listed j z).1)
+module _ (q : ℕ → Bool) (t : ℕ → ℕ → Bool) (n : ℕ) (few : n ≤ none) where
+  abbrev pair : ℕ → ℕ → Bool
+  pair a b = ltb a b && (q a && (q b && t a b))
+
+  unpaired : (a : ℕ) → q a ≡ false → any n (pair a) ≡ false
+  unpaired a h = any_never (pair a) n (λ b u. rw h (and-false (ltb a b)))
+
+  finds : (a : ℕ) → q a ≡ true → find (t a) (positions (from q (suc a)) n) ≡ below n (first n (pair a))
+  finds a h =
+      find_listed (from q (suc a)) (t a) n refl refl
+      ∙ ap (below n) (first_same _ _ n (λ b u. rw h (and_assoc (ltb a b) (q b) (t a b))))
+
+  least_from : (d a : ℕ) → a + d ≡ n → any a (λ x. any n (pair x)) ≡ false → least_pair t (positions (from q a) n) ≡ found₂ n pair
+  least_from zero a e h = rw (from_past q n a (omega arith), pair_nowhere t [] refl) (pair_none n pair (let z : a ≡ n = omega arith in rw z at h))
+  least_from (suc d) a e h = rw (from_next q n a (omega arith)) (go (λ k. least_from d (suc a) (omega arith) k) (q a) refl)
+    where
+      rest : List ℕ
+      rest = positions (from q (suc a)) n
+
+      go :
+          (any (suc a) (λ x. any n (pair x)) ≡ false → least_pair t rest ≡ found₂ n pair) → (b : Bool) → q a ≡ b →
+          least_pair t (cond b (a ∷ rest) rest) ≡ found₂ n pair
+      go more false k = more (rw add-one at (any_pass (λ x. any n (pair x)) a h (unpaired a k)))
+      go more true k = chosen (any n (pair a)) refl
+        where
+          chosen : (b : Bool) → any n (pair a) ≡ b → least_pair t (a ∷ rest) ≡ found₂ n pair
+          chosen true z =
+              pair_here t a rest (finds a k ∙ below_some (any_first (pair a) n z))
+              ∙ pair_first n pair few a (omega arith) h z
+          chosen false z =
+              pair_later t a rest (finds a k ∙ rw (first_none (pair a) n z) (below_none (omega arith)))
+              ∙ more (rw add-one at (any_pass (λ x. any n (pair x)) a h z))
+
+pub least_is : (q : ℕ → Bool) (t : ℕ → ℕ → Bool) (n : ℕ) → n ≤ none → least_pair t (positions q n) ≡ found₂ n (λ a b. ltb a b && (q a && (q b && t a b)))
+least_is q t n few = ap (least_pair t) (positions_same (λ b. rw (le-leb 0 b (omega arith)) refl) n) ∙ least_from q t n few n 0 (omega arith) (any_none _)
+
+-- the six tests of a race, as the code makes them
+grouped : (p q r s u v : Bool) → p && q && r && s && u && v ≡ p && (q && (r && s && (u && v)))
+grouped false q r s u v = refl
+grouped true false r s u v = refl
+grouped true true false s u v = refl
+grouped true true true false u v = refl
+grouped true true true true u v = refl
+
+pub least_races :
+    (h : ℕ → ℕ → Bool) (x : List ℕ) → size x ≤ max_actions →
+    named₂ 31 0 (least_pair (races h x) (positions (plain x) (size x))) ≡ checked (racing h x)
+unfolding racing race races
+least_races h x few =
+    checked_rule₂ 31 0 (size x) _ (omega arith) (least_is (plain x) (races h x) (size x) (omega arith)) refl
+    ∙ ap checked (rule₂_same 31 0 (size x) _ _ (λ a b u v. ap (λ (z : Bool). ltb a b && z) (sym (grouped (plain x a) (plain x b) _ _ _ _))))

@@ -1,97 +1,122 @@
--- The write that a read sees, as it is kept, and what 15 says of it.
+-- The write that a read sees, as it is kept, and what 15 and 16 ask of it.
 use Prim.Native.Nat.{ℕ, ◌+◌, ◌<◌, ◌≤◌}
 use native.Mathlib.Nat.{eq-or-lt_of_le}
 use native.Mathlib.Omega.{arith}
-use mathlib.Core.Path.{◌≡◌, refl, sym, ap, ◌∙◌}
+use mathlib.Core.Path.{◌≡◌, refl, sym}
 use mathlib.Core.Logic.{⊎_elim}
-use mathlib.Core.Bool.{Bool, true, false, not, cond, ◌&&◌, and-false}
+use mathlib.Core.Bool.{Bool, true, false, not, ◌&&◌}
 use mathlib.Core.List.{List}
-use lib.Dec.{eqb, ltb, leb}
+use lib.Dec.{eqb, ltb}
 use lib.ListN.{length, set, get_or}
 use lib.Seq.{get_or-set_same, get_or-set_other}
-use borrow.Author.Tests.{ltb-true, not-true, not-false}
+use borrow.Author.Tests.{ltb-true}
+use Rattle.std.specs.Prelude.{Option, Some, None}
+use Rattle.std.specs.Option.{unwrap_or}
 use Rattle.model.specs.Limits.{max_actions}
-use Rattle.model.specs.Search.{first, none}
+use Rattle.model.specs.Search.{any, none, position}
 use Rattle.model.specs.Layout.{size, ident, target, seen, read, write}
-use Rattle.model.specs.Rules.{rival, twin, seen_at, broken15}
+use Rattle.model.specs.Rules.{rival, twin, seen_at, seen_value, broken15}
 use Rattle.model.proofs.Bools.{both}
-use Rattle.model.proofs.Search.{any_at, first_is, first_any}
-use Rattle.model.proofs.Ways.{leb_not}
-use Rattle.rules.specs.Sources.{source}
+use Rattle.model.proofs.Search.{any_at, any_same, first_is}
+use Rattle.model.proofs.Options.{no_position, some_position}
+use Rattle.rules.specs.Sources.{source, value_at}
 use Rattle.rules.specs.Searches.{seen_by}
 
--- one entry more
-pub sources_more :
-    (x l : List ℕ) (a : ℕ) {w : ℕ} → a < length l → ((b : ℕ) → b < a → get_or l b 0 ≡ source x b) → w ≡ source x a →
-    (b : ℕ) → b < a + 1 → get_or (set l a w) b 0 ≡ source x b
-sources_more x l a {w} len f e b u =
-    ⊎_elim (λ (q : b ≡ a). rw (q, get_or-set_same l a w 0 len) e)
-    (λ (q : b < a). rw (get_or-set_other l a b w 0 (λ z. omega arith)) (f b q))
-    (eq-or-lt_of_le (let z : b ≤ a = omega arith in z))
+-- an option as a position
+kept : (o : Option ℕ) → ((w : ℕ) → o ≡ Some w → w < none) → position (unwrap_or o none) ≡ o
+kept None f = sym (no_position refl)
+kept (Some w) f = let l : w < none = f w refl in sym (some_position (λ e. omega arith))
 
--- what is looked for among the writes
-module _ (x : List ℕ) (a b : ℕ) where
-  pub seen_writes : write x b ≡ false → seen_by x a b ≡ false
-  unfolding seen_by rival
-  seen_writes e = rw e (and-false (eqb (ident x b) (seen x a)))
+-- three tests in another order
+second_first : (p q r : Bool) → p && (q && r) ≡ q && (p && r)
+second_first true q r = refl
+second_first false true r = refl
+second_first false false r = refl
 
-  pub sought_is : write x b ≡ true → {d v : ℕ} → d ≡ seen x a → v ≡ target x a → eqb (ident x b) d && eqb (target x b) v ≡ seen_by x a b
-  unfolding seen_by rival
-  sought_is e f g = rw (e, f, g)
-
-module _ (x : List ℕ) (few : size x ≤ max_actions) (a : ℕ) {w : ℕ} (e : w ≡ source x a) where
+module _ (x : List ℕ) (a : ℕ) where
   -- a is a read that sees an action
   abbrev sees : Bool
   sees = read x a && not (eqb (seen x a) 0)
 
-  kept_at : w ≡ cond sees (seen_at x a) none
+  none_at : sees ≡ false → source x a ≡ None
   unfolding source
-  kept_at = e
+  none_at h = rw (h, source) refl
 
-  pub source_none : w ≡ none → false ≡ sees
-  unfolding twin
-  source_none h = go sees refl
+  some_at : sees ≡ true → source x a ≡ Some (seen_at x a)
+  unfolding source
+  some_at h = rw (h, source) refl
+
+  -- what the code finds for a
+  pub no_read : read x a ≡ false → None ≡ source x a
+  no_read h = sym (none_at (rw h))
+
+  module _ (reads : read x a ≡ true) where
+    pub sees_initial : eqb (seen x a) 0 ≡ true → source x a ≡ None
+    sees_initial h = none_at (rw (reads, h))
+
+    pub sees_action : eqb (seen x a) 0 ≡ false → source x a ≡ Some (seen_at x a)
+    sees_action h = some_at (rw (reads, h))
+
+    -- 16
+    pub value_seen : value_at x (source x a) ≡ seen_value x a
+    unfolding seen_value
+    value_seen = go (eqb (seen x a) 0) refl
+      where
+        go : (t : Bool) → eqb (seen x a) 0 ≡ t → value_at x (source x a) ≡ seen_value x a
+        go true e = rw (sees_initial e, e)
+        go false e = rw (sees_action e, e)
+
+  -- 15
+  pub none_unbroken : source x a ≡ None → false ≡ broken15 x a
+  unfolding broken15
+  none_unbroken h = go sees refl
     where
-      go : (t : Bool) → sees ≡ t → false ≡ t
-      go true q = absurd (let z : ⊥ = omega (arith, rw q at kept_at, (first_is (λ b. eqb (ident x b) (seen x a)) (size x)).within) in z)
-      go false q = refl
+      go : (t : Bool) → sees ≡ t → false ≡ broken15 x a
+      go true e = let k = some_at e in absurd (let z : ⊥ = cc in z)
+      go false e = rw e
 
-  -- a read that has none sees the initial write
-  pub source_initial : read x a ≡ true → w ≡ none → eqb (seen x a) 0 ≡ true
-  source_initial r h = not-false (eqb (seen x a) 0) (sym (rw r at (source_none h)))
+  module _ {w : ℕ} (h : source x a ≡ Some w) where
+    pub record Seen : Type 0 where
+      pub sees_it : sees ≡ true
+      pub at : w ≡ seen_at x a
 
-  pub record Seen : Type 0 where
-    pub reads : read x a ≡ true
-    pub some : eqb (seen x a) 0 ≡ false
-    pub at : w ≡ seen_at x a
+    seen_is : Seen
+    seen_is = go sees refl
+      where
+        go : (t : Bool) → sees ≡ t → Seen
+        go true e = let k = some_at e in record { sees_it = e; at = cc }
+        go false e = let k = none_at e in absurd (let z : ⊥ = cc in z)
 
-  pub source_some : (w ≡ none → ⊥) → Seen
-  source_some h = go sees refl
-    where
-      go : (t : Bool) → sees ≡ t → Seen
-      go true q =
-          let (r, s) = both (read x a) (not (eqb (seen x a) 0)) q in
-          record { reads = r; some = not-true (eqb (seen x a) 0) s; at = rw q at kept_at }
-      go false q = absurd (h (rw q at kept_at))
+    -- no write to the variable has the identifier, or the first action that has it is one
+    pub some_broken : not (any (size x) (seen_by x a)) ≡ broken15 x a
+    unfolding broken15 seen_by
+    some_broken = rw seen_is.sees_it
 
-  -- 15: the first action with the identifier is a write to the variable
-  pub sees_write : (w ≡ none → ⊥) → ltb w (size x) && rival x a w ≡ true → false ≡ broken15 x a
-  unfolding broken15 seen_by twin
-  sees_write h k =
-      let s = source_some h in
-      let (below, rivals) = both (ltb w (size x)) (rival x a w) k in
-      let same : eqb (ident x w) (seen x a) ≡ true =
-      rw s.at ((first_is (λ b. eqb (ident x b) (seen x a)) (size x)).holds (ltb-true (seen_at x a) (size x) (rw s.at at below))) in
-      rw (
-        s.reads,
-        s.some,
-        any_at (seen_by x a) (size x) w (ltb-true w (size x) below) (rw (same, rivals)),
-      )
+    pub some_unbroken : ltb w (size x) && rival x a w ≡ true → false ≡ broken15 x a
+    unfolding broken15 seen_by twin
+    some_unbroken k =
+        let (below, rivals) = both (ltb w (size x)) (rival x a w) k in
+        let same : eqb (ident x w) (seen x a) ≡ true =
+        rw seen_is.at ((first_is (λ b. eqb (ident x b) (seen x a)) (size x)).holds (ltb-true (seen_at x a) (size x) (rw seen_is.at at below))) in
+        rw (seen_is.sees_it, any_at (seen_by x a) (size x) w (ltb-true w (size x) below) (rw (same, rivals)))
 
-  -- no write to the variable has it
-  pub sees_none : (w ≡ none → ⊥) → {b : ℕ} → b ≡ first (size x) (seen_by x a) → leb (size x) b ≡ broken15 x a
-  unfolding broken15 seen_by
-  sees_none h f =
-      let s = source_some h in
-      rw (s.reads, s.some, f)
-      (leb_not (size x) (first (size x) (seen_by x a)) ∙ ap not (first_any (seen_by x a) (size x)))
+  -- what is looked for among the writes
+  pub sought_is :
+      {d v : ℕ} → d ≡ seen x a → v ≡ target x a →
+      any (size x) (λ b. write x b && (eqb (ident x b) d && eqb (target x b) v)) ≡ any (size x) (seen_by x a)
+  unfolding seen_by rival
+  sought_is {d} {v} e f = rw (e, f) (any_same _ _ (size x) (λ b u. second_first (write x b) (eqb (ident x b) (seen x a)) (eqb (target x b) (target x a))))
+
+-- the table, one entry more
+pub sources_more :
+    (x l : List ℕ) (a : ℕ) {r : ℕ} {o : Option ℕ} → size x ≤ max_actions → a < length l →
+    ((b : ℕ) → b < a → position (get_or l b 0) ≡ source x b) → o ≡ source x a → r ≡ unwrap_or o none →
+    (b : ℕ) → b < a + 1 → position (get_or (set l a r) b 0) ≡ source x b
+unfolding twin
+sources_more x l a {r} {o} few len f q e b u =
+    ⊎_elim (λ (z : b ≡ a). rw (z, get_or-set_same l a r 0 len, e, q) (kept (source x a) fits))
+    (λ (z : b < a). rw (get_or-set_other l a b r 0 (λ y. omega arith)) (f b z))
+    (eq-or-lt_of_le (let z : b ≤ a = omega arith in z))
+  where
+    fits : (w : ℕ) → source x a ≡ Some w → w < none
+    fits w h = omega (arith, (seen_is x a h).at, (first_is (λ b. eqb (ident x b) (seen x a)) (size x)).within)

@@ -1,174 +1,117 @@
 // 17 and 18, the consistency rules.
-ghost use Rattle.std.specs.Prelude.{◌≡◌, not, ◌&&◌, ◌||◌, eqb, ltb, leb, ◌<◌};
-ghost use Rattle.model.specs.Search.{first, found, none};
-ghost use Rattle.model.specs.Layout.{size, target, place, write};
+ghost use Rattle.std.specs.Prelude.{◌≡◌, ◌&&◌, eqb, ltb, leb, ◌<◌};
+ghost use Rattle.model.specs.Search.{any, found, position, below};
+ghost use Rattle.model.specs.Answers.{checked};
+ghost use Rattle.model.specs.Layout.{size, target, place};
 ghost use Rattle.model.specs.WorkArea.{shown};
-ghost use Rattle.model.specs.Rules.{latest, write_ident, broken17, broken18};
-ghost use Rattle.positions.specs.Lists.{Listed};
-ghost use Rattle.rules.specs.Sources.{Sources};
+ghost use Rattle.model.specs.Rules.{latest, broken17, broken18, consistent};
+ghost use Rattle.rules.specs.Sources.{ident_at, before, foreseen};
 ghost use Rattle.rules.specs.Searches.{hiding};
 
-use answers::NONE;
-use model::MAX_ACTIONS;
+use crate::seen::Found;
+use answers::rule;
+use model::{Answer, Kind};
 
 // b is on the variable, at a place below this one and from `from` on.
 fn in_range(x: &[u8], variable: u8, from: u16, below: u16, b: u16) -> bool
-    ensures { result ≡ (eqb (target x.now b) variable && ltb (place x.now b) below && leb from (place x.now b)) }
+    ensures { result ≡ (eqb (target x.now b) variable && (leb from (place x.now b) && ltb (place x.now b) below)) }
 {
-    if fields::target(x, b) != variable {
-        return false;
-    }
-    let place = fields::place(x, b);
-    if place >= below {
-        return false;
-    }
-    from <= place
+    fields::target(x, b) == variable && (from..below).contains(&fields::place(x, b))
 }
 
-// The write to a's variable of largest place below a's, in one pass over the writes: a later one has a place from `from` on.
-fn latest(x: &[u8], list: &[u16; MAX_ACTIONS], count: u16, a: u16) -> u16
-    requires { Listed (write x.now) (size x.now) list.now count }
-    ensures { result ≡ latest x.now a }
+// The identifier of the write w; 0 of the initial one.
+fn ident_at(x: &[u8], w: Option<u16>) -> u16
+    ensures { result ≡ ident_at x.now w }
 {
-    let variable = fields::target(x, a);
-    let below = fields::place(x, a);
-    let mut best = count;
-    let mut from = 0;
-    for j in 0..count {
-        let b = list[j as usize];
-        if in_range(x, variable, from, below, b) {
-            best = j;
-            from = fields::place(x, b) + 1;
+    w.map_or(0, |w| fields::ident(x, w))
+}
+
+// The write w happens before b: the initial one does before every action.
+fn before(part: &[u64], w: Option<u16>, b: u16) -> bool
+    ensures { result ≡ before (shown part.now) w b }
+{
+    w.is_none_or(|w| rows::before(part, w, b))
+}
+
+// a happens before the write w: never before the initial one.
+fn foreseen(part: &[u64], a: u16, w: Option<u16>) -> bool
+    ensures { result ≡ foreseen (shown part.now) a w }
+{
+    w.is_some_and(|w| rows::before(part, a, w))
+}
+
+// b happens after the write w, and before a.
+fn between(part: &[u64], w: Option<u16>, b: u16, a: u16) -> bool
+    ensures { result ≡ (before (shown part.now) w b && shown part.now b a) }
+{
+    before(part, w, b) && rows::before(part, b, a)
+}
+
+impl Found<'_> {
+    // The write to a's variable of largest place below a's, in one pass over the writes: a later one has a place from `from` on.
+    fn latest(&self, a: u16) -> Option<u16>
+        ensures { result ≡ below (size self.now.x.now) (latest self.now.x.now a) }
+    {
+        let variable = fields::target(self.x, a);
+        let below = fields::place(self.x, a);
+        let writes = self.writes();
+        let mut best = None;
+        let mut from = 0;
+        for b in writes {
+            if in_range(self.x, variable, from, below, *b) {
+                best = Some(*b);
+                from = fields::place(self.x, *b) + 1;
+            }
         }
+        best
     }
-    if best < count {
-        list[best as usize]
-    } else {
-        fields::size(x)
-    }
-}
 
-// The identifier of the write at b; 0 for the initial write.
-fn write_ident(x: &[u8], b: u16) -> u16
-    ensures { result ≡ write_ident x.now b }
-{
-    if b < fields::size(x) {
-        fields::ident(x, b)
-    } else {
-        0
+    fn broken17(&self, a: u16) -> bool
+        ensures { result ≡ broken17 self.now.x.now a }
+    {
+        fields::kind(self.x, a) == Kind::VolatileRead as u8
+            && fields::seen(self.x, a) != ident_at(self.x, self.latest(a))
     }
-}
 
-fn broken17(x: &[u8], list: &[u16; MAX_ACTIONS], count: u16, a: u16) -> bool
-    requires { Listed (write x.now) (size x.now) list.now count }
-    ensures { result ≡ broken17 x.now a }
-{
-    if fields::kind(x, a) != model::VOLATILE_READ {
-        return false;
+    pub(crate) fn first17(&self) -> Option<u16>
+        ensures { result ≡ position (found (size self.now.x.now) (broken17 self.now.x.now)) }
+    {
+        (0..fields::size(self.x)).find(|a| self.broken17(*a))
     }
-    fields::seen(x, a) != write_ident(x, latest(x, list, count, a))
-}
 
-pub(crate) fn first17(x: &[u8], list: &[u16; MAX_ACTIONS], count: u16) -> u16
-    requires { Listed (write x.now) (size x.now) list.now count }
-    ensures { result ≡ found (size x.now) (broken17 x.now) }
-{
-    let n = fields::size(x);
-    for a in 0..n {
-        if broken17(x, list, count, a) {
-            return a;
+    // A write to a's variable happens before a, and after the write w. What is cheap and fails most often comes first.
+    fn hidden(&self, a: u16, w: Option<u16>) -> bool
+        ensures { result ≡ any (size self.now.x.now) (hiding (shown self.now.part.now) self.now.x.now a w) }
+    {
+        let variable = fields::target(self.x, a);
+        self.writes().iter().any(|b| fields::target(self.x, *b) == variable
+            && between(self.part, w, *b, a))
+    }
+
+    fn broken18(&self, a: u16) -> bool
+        requires { a < size self.now.x.now }
+        ensures { result ≡ broken18 (shown self.now.part.now) self.now.x.now a }
+    {
+        if fields::kind(self.x, a) != Kind::Read as u8 {
+            return false;
         }
+        let w = self.source(a);
+        foreseen(self.part, a, w) || self.hidden(a, w)
     }
-    NONE
-}
 
-// The read a happens before the write at w that it sees, if that isn't the initial one.
-fn foreseen(part: &[u64], a: u16, w: u16) -> bool
-    ensures { result ≡ (not (eqb w none) && shown part.now a w) }
-{
-    if w == NONE {
-        return false;
+    pub(crate) fn first18(&self) -> Option<u16>
+        ensures { result ≡ position (found (size self.now.x.now) (broken18 (shown self.now.part.now) self.now.x.now)) }
+    {
+        (0..fields::size(self.x)).find(|a| self.broken18(*a))
     }
-    rows::before(part, a, w)
-}
 
-// The write at w, or else the initial one, happens before b.
-fn after_seen(part: &[u64], w: u16, b: u16) -> bool
-    ensures { result ≡ (eqb w none || shown part.now w b) }
-{
-    if w == NONE {
-        return true;
+    // The seen-write rules and the consistency rules, 15 to 18.
+    pub(crate) fn consistent(&self, s: u8) -> Result<(), Answer>
+        ensures { result ≡ checked (consistent (shown self.now.part.now) s self.now.x.now) }
+    {
+        rule(15, s, self.first15())?;
+        rule(16, s, self.first16())?;
+        rule(17, s, self.first17())?;
+        rule(18, s, self.first18())
     }
-    rows::before(part, w, b)
-}
-
-// b is on the variable, happens before a, and after the write at w. What is cheap and fails most often comes first.
-fn hides(x: &[u8], part: &[u64], variable: u8, w: u16, b: u16, a: u16) -> bool
-    ensures { result ≡ (eqb (target x.now b) variable && (eqb w none || shown part.now w b) && shown part.now b a) }
-{
-    if fields::target(x, b) != variable {
-        return false;
-    }
-    if !after_seen(part, w, b) {
-        return false;
-    }
-    rows::before(part, b, a)
-}
-
-// The first write to a's variable that happens before a, and after the write at w that a sees; the section's size where there is none.
-fn hider(x: &[u8], part: &[u64], list: &[u16; MAX_ACTIONS], count: u16, a: u16, w: u16) -> u16
-    requires { Listed (write x.now) (size x.now) list.now count }
-    ensures { result ≡ first (size x.now) (hiding (shown part.now) x.now a w) }
-{
-    let variable = fields::target(x, a);
-    for j in 0..count {
-        let b = list[j as usize];
-        if hides(x, part, variable, w, b, a) {
-            return b;
-        }
-    }
-    fields::size(x)
-}
-
-fn broken18(
-    x: &[u8],
-    part: &[u64],
-    source: &[u16; MAX_ACTIONS],
-    list: &[u16; MAX_ACTIONS],
-    count: u16,
-    a: u16,
-) -> bool
-    requires a_bound { a < size x.now }
-    requires sources { Sources x.now source.now }
-    requires listed { Listed (write x.now) (size x.now) list.now count }
-    ensures { result ≡ broken18 (shown part.now) x.now a }
-{
-    if fields::kind(x, a) != model::READ {
-        return false;
-    }
-    let w = source[a as usize];
-    if foreseen(part, a, w) {
-        return true;
-    }
-    hider(x, part, list, count, a, w) < fields::size(x)
-}
-
-pub(crate) fn first18(
-    x: &[u8],
-    part: &[u64],
-    source: &[u16; MAX_ACTIONS],
-    list: &[u16; MAX_ACTIONS],
-    count: u16,
-) -> u16
-    requires sources { Sources x.now source.now }
-    requires listed { Listed (write x.now) (size x.now) list.now count }
-    ensures { result ≡ found (size x.now) (broken18 (shown part.now) x.now) }
-{
-    let n = fields::size(x);
-    for a in 0..n {
-        if broken18(x, part, source, list, count, a) {
-            return a;
-        }
-    }
-    NONE
 }

@@ -1,16 +1,15 @@
 // The race of number 31.
-ghost use Rattle.std.specs.Prelude.{◌≡◌, true, not, ◌&&◌, ◌||◌, eqb, ◌≤◌, ◌<◌};
+ghost use Rattle.std.specs.Prelude.{◌≡◌, not, ◌&&◌, ◌||◌, eqb, ◌≤◌};
+ghost use Rattle.std.specs.List.{find};
 ghost use Rattle.model.specs.Limits.{max_actions};
-ghost use Rattle.model.specs.Search.{first};
+ghost use Rattle.model.specs.Answers.{checked};
 ghost use Rattle.model.specs.Layout.{size, target, write};
-ghost use Rattle.model.specs.Relations.{plain};
 ghost use Rattle.model.specs.WorkArea.{shown};
 ghost use Rattle.model.specs.Rules.{racing};
-ghost use Rattle.positions.specs.Lists.{Listed};
-ghost use Rattle.rules.specs.Searches.{later_race, plains_upto};
+ghost use Rattle.rules.specs.Searches.{races, least_pair};
 
-use answers::numbered;
-use model::{Answer, MAX_ACTIONS};
+use answers::rule_of_pair;
+use model::Answer;
 use positions::lists;
 use positions::lists::PLAIN;
 
@@ -18,65 +17,44 @@ use positions::lists::PLAIN;
 fn conflicting(x: &[u8], variable: u8, writes: bool, b: u16) -> bool
     ensures { result ≡ (eqb variable (target x.now b) && (writes || write x.now b)) }
 {
-    if variable != fields::target(x, b) {
-        return false;
-    }
-    if writes {
-        return true;
-    }
-    table::write(x, b)
+    variable == fields::target(x, b) && (writes || table::write(x, b))
 }
 
-// The plain access b races with the plain access a, which is on the variable and writes or not.
-fn races(x: &[u8], part: &[u64], a: u16, variable: u8, writes: bool, b: u16) -> bool
-    ensures { result ≡ (eqb variable (target x.now b) && (writes || write x.now b) && not (shown part.now a b) && not (shown part.now b a)) }
+// Neither happens before the other.
+fn unordered(part: &[u64], a: u16, b: u16) -> bool
+    ensures { result ≡ (not (shown part.now a b) && not (shown part.now b a)) }
 {
-    if !conflicting(x, variable, writes, b) {
-        return false;
-    }
-    if rows::before(part, a, b) {
-        return false;
-    }
-    !rows::before(part, b, a)
+    !rows::before(part, a, b) && !rows::before(part, b, a)
 }
 
-// The first action after the plain access a that races with it; the section's size where there is none. The list has the plain accesses, of which the first `from` are up to a.
-fn raced(x: &[u8], part: &[u64], list: &[u16; MAX_ACTIONS], count: u16, from: u16, a: u16) -> u16
-    requires a_bound { a < size x.now }
-    requires a_value { plain x.now a ≡ true }
-    requires listed { Listed (plain x.now) (size x.now) list.now count }
-    requires from_value { from ≡ plains_upto x.now a }
-    ensures { result ≡ first (size x.now) (later_race (shown part.now) x.now a) }
+// The first of the later plain accesses that races with the plain access a.
+fn raced(x: &[u8], part: &[u64], a: u16, later: &[u16]) -> Option<u16>
+    ensures { result ≡ find (races (shown part.now) x.now a) later.now }
 {
     let variable = fields::target(x, a);
     let writes = table::write(x, a);
-    for j in from..count {
-        let b = list[j as usize];
-        if races(x, part, a, variable, writes, b) {
-            return b;
-        }
-    }
-    fields::size(x)
+    later.iter().copied().find(|b| conflicting(x, variable, writes, *b) && unordered(part, a, *b))
 }
 
-// Each plain access is held against those after it in the list, of which the first i are up to a.
-pub(crate) fn least_pair(x: &[u8], part: &[u64]) -> Answer
-    requires { size x.now ≤ max_actions }
-    ensures { result ≡ racing (shown part.now) x.now }
+// The least pair of plain accesses that races: each is held against those after it.
+fn least_pair(x: &[u8], part: &[u64], plain: &[u16]) -> Option<(u16, u16)>
+    ensures { result ≡ least_pair (races (shown part.now) x.now) plain.now }
 {
-    let n = fields::size(x);
-    let plain = lists::listed(x, PLAIN);
-    let count = plain.count;
-    let list = plain.at;
-    let mut i = 0;
-    for a in 0..n {
-        if lists::of_kinds(x, PLAIN, a) {
-            i += 1;
-            let b = raced(x, part, &list, count, i, a);
-            if b < n {
-                return Answer { n: 31, s: 0, a, b };
-            }
+    let mut rest = plain;
+    while let Some((a, later)) = rest.split_first() {
+        if let Some(b) = raced(x, part, *a, later) {
+            return Some((*a, b));
         }
+        rest = later;
     }
-    numbered(0, 0)
+    None
+}
+
+// 31, of a section within the limit.
+pub(crate) fn race_free(x: &[u8], part: &[u64]) -> Result<(), Answer>
+    requires { size x.now ≤ max_actions }
+    ensures { result ≡ checked (racing (shown part.now) x.now) }
+{
+    let plain = lists::listed(x, PLAIN);
+    rule_of_pair(31, 0, least_pair(x, part, plain.as_slice()))
 }

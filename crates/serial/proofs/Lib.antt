@@ -1,2 +1,3 @@
+pub mod Ranges
 pub mod Cursors
 pub mod Unique

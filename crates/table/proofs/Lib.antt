@@ -1,3 +1,2 @@
 -- Laws of this crate.
-pub mod Column
 pub mod Unique

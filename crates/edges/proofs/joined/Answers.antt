@@ -1,27 +1,14 @@
 -- `edges::joined` meets its contract.
-use native.Mathlib.Omega.{arith}
-use mathlib.Core.Path.{sym}
+use mathlib.Core.Path.{refl, sym, ◌∙◌}
+use Rattle.std.proofs.Common.{rules, tests}
 use Rattle.model.specs.Justified.{sw#}
-use Rattle.model.proofs.Scan.{scanned_none, scanned_more, scanned_some, scanned_nowhere}
-use Rattle.edges.proofs.Edge.{by_known}
+use Rattle.model.proofs.Chains.{any_below}
+use Rattle.edges.proofs.Own.{by_own}
 use Rattle.edges.proofs.joined.Goals as goal
 
 pub returns-then-stands : goal.returns-then-stands
-returns-then-stands c =
-    let n = c.size-n.ensures in
-    sym (by_known _ _ _ _ _ (rw n at c.if-u-n.true) (rw n at c.if-v-n.true) (rw c.stands.ensures at c.if-stands.true))
+returns-then-stands c = c.if-stands.true ∙ sym (by_own _ _ (sym c.stands.ensures ∙ c.if-stands.true))
 
-pub returns-then-joins : goal.returns-then-joins
+pub returns-else-stands : goal.returns-else-stands
 unfolding sw#
-returns-then-joins c =
-    scanned_some c.loop-a.invariant c.size-n.ensures (omega arith) c.joins.ensures c.if-joins.true
-
-pub returns : goal.returns
-unfolding sw#
-returns c = scanned_nowhere c.loop-a.invariant c.size-n.ensures (omega arith)
-
-pub loop-a-init : goal.loop-a-init
-loop-a-init c = scanned_none _ _
-
-pub loop-a-preserved : goal.loop-a-preserved
-loop-a-preserved c = scanned_more c.loop-a.invariant (omega arith) c.joins.ensures c.if-joins.false
+returns-else-stands c = any_below refl c.size.ensures c.any.ensures.ran (λ x b q k. search (rules, tests))

@@ -1,8 +1,8 @@
--- `hb::edges_from` meets its contract: before entry j the edges to the entries before it are marked.
-use Prim.Native.Nat.{◌≤◌}
+-- `hb::edges_from` meets its contract: before each entry the edges to the entries before it are marked.
 use mathlib.Core.Path.{◌≡◌}
+use lib.ListN.{take}
 use Rattle.hb.specs.Edges.{from}
 use Rattle.hb.proofs.edges_from.Given as goal
 
-abbrev pub invariant-loop-j : goal.invariant-loop-j
-invariant-loop-j l = (l.j ≤ l.m) × (l.part ≡ from l.x l.at l.a l.j l.initial.part)
+abbrev pub invariant-loop-b : goal.invariant-loop-b
+invariant-loop-b l = l.part ≡ from l.x l.a (take l.b-index l.takers) l.initial.part

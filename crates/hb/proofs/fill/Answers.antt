@@ -2,8 +2,6 @@
 use mathlib.Core.Path.{sym, ap, ◌∙◌}
 use native.Mathlib.Omega.{arith}
 use lib.ListN.{length}
-use borrow.Author.Rules.{rules}
-use Rattle.positions.proofs.Listing.{listed_fits}
 use Rattle.hb.proofs.Filled.{happens_by, receivers, happens_other, happens_many, happens_lined, other_kept}
 use Rattle.hb.proofs.fill.Goals as goal
 
@@ -21,19 +19,10 @@ returns-then-n-gt-MAX_ACTIONS c =
     other_kept _ _ c.lined.ensures.value c.lined.ensures.part_after c.if-lined.false
     ∙ sym (happens_many _ _ (let e = c.size-n.ensures in omega arith))
 
-pub sweep-requires : goal.sweep-requires
-sweep-requires c =
-    record {
-      part_len = search rules;
-      n_le_max_actions = search rules;
-      listed = receivers _ c.size-n.ensures c.if-n-gt-MAX_ACTIONS.false c.listed-takers.ensures;
-    }
-
-pub close-requires : goal.close-requires
-close-requires c =
-    listed_fits (receivers _ c.size-n.ensures c.if-n-gt-MAX_ACTIONS.false c.listed-takers.ensures)
+pub sweep-requires-clause-listed : goal.sweep-requires-clause-listed
+sweep-requires-clause-listed c = receivers _ c.size-n.ensures c.if-n-gt-MAX_ACTIONS.false (c.as_slice.ensures ∙ c.listed-takers.ensures)
 
 pub returns : goal.returns
 returns c =
     let kept = other_kept _ _ c.lined.ensures.value c.lined.ensures.part_after c.if-lined.false in
-    happens_by _ _ (sym (ap length kept) ∙ c.if-part-ne-PART_WORDS.false) c.size-n.ensures c.if-n-gt-MAX_ACTIONS.false (receivers _ c.size-n.ensures c.if-n-gt-MAX_ACTIONS.false c.listed-takers.ensures) c.sweep.ensures c.close.ensures
+    happens_by _ _ (sym (ap length kept) ∙ c.if-part-ne-PART_WORDS.false) c.size-n.ensures c.if-n-gt-MAX_ACTIONS.false (receivers _ c.size-n.ensures c.if-n-gt-MAX_ACTIONS.false (c.as_slice-2.ensures ∙ c.listed-takers.ensures)) c.sweep.ensures c.close.ensures

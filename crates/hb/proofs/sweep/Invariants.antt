@@ -1,5 +1,4 @@
 -- `hb::sweep` meets its contract: the actions from a on are passed.
-use Prim.Native.Nat.{◌≤◌}
 use mathlib.Core.Path.{◌≡◌}
 use Rattle.model.specs.Limits.{max_actions}
 use Rattle.rows.specs.Part.{table}
@@ -7,7 +6,4 @@ use Rattle.hb.specs.Passing.{leads, passed}
 use Rattle.hb.proofs.sweep.Given as goal
 
 abbrev pub invariant-loop-a : goal.invariant-loop-a
-invariant-loop-a l = (l.a ≤ l.n) × (l.part ≡ table max_actions (leads l.x l.n l.a)) × (l.later ≡ table 256 (passed l.x l.n l.a))
-
-abbrev pub decreases-loop-a : goal.decreases-loop-a
-decreases-loop-a l = l.a
+invariant-loop-a l = (l.part ≡ table max_actions (leads l.x l.n l.a)) × (l.later ≡ table 256 (passed l.x l.n l.a))

@@ -1,39 +1,23 @@
 -- `jmm::sections` meets its contract.
-use mathlib.Core.Path.{◌≡◌, sym, ap, ◌∙◌}
-use native.Mathlib.Omega.{arith}
+use Prim.Native.Nat.{ℕ, ◌*◌}
+use mathlib.Core.Path.{refl, ap, ◌∙◌}
+use lib.ListN.{take, drop}
+use Rattle.std.proofs.Common.{rules, tests}
 use Rattle.model.specs.declared.Answer.{Answer}
-use Rattle.model.proofs.Answers.{up_to_none, up_to_pass, up_to_at}
-use Rattle.record.proofs.Parts.{span_low, span_high}
-use Rattle.jmm.proofs.Shown.{well_formed_as}
-use Rattle.jmm.proofs.Clean.{clean_well_formed}
+use Rattle.model.specs.Answers.{checked}
+use Rattle.model.specs.Limits.{part_words}
+use Rattle.model.specs.Layout.{section}
+use Rattle.model.specs.Rules.{well_formed}
+use Rattle.model.specs.WorkArea.{shown}
+use Rattle.model.proofs.Checks.{checked_below}
+use Rattle.positions.specs.Limit.{limited}
+use Rattle.jmm.proofs.Shown.{up_to_same, formed_at}
 use Rattle.jmm.proofs.sections.Goals as goal
-
-pub loop-s-init : goal.loop-s-init
-loop-s-init c = (omega arith, up_to_none _)
-
-pub slice_bounds-well_formed-count : goal.slice_bounds-well_formed-count
-slice_bounds-well_formed-count c = span_low _ _ _ c.bounds-x.ensures
-
-pub slice_bounds-well_formed-start : goal.slice_bounds-well_formed-start
-slice_bounds-well_formed-start c = span_low _ _ _ c.bounds-x.ensures
-
-pub slice_bounds-well_formed-end : goal.slice_bounds-well_formed-end
-slice_bounds-well_formed-end c = span_high _ _ _ c.bounds-x.ensures
-
-pub slice_bounds-well_formed-end-in-loop-s : goal.slice_bounds-well_formed-end-in-loop-s
-slice_bounds-well_formed-end-in-loop-s c = let room = c.requires.accepted.room in omega arith
-
-pub returns-then-broken-ne0 : goal.returns-then-broken-ne0
-returns-then-broken-ne0 c =
-    let e = well_formed_as _ _ _ c.requires _ (omega arith) c.bounds-x.ensures c.well_formed-broken.ensures in
-    e ∙ sym (up_to_at _ _ _ (omega arith) c.loop-s.invariant.1 (λ z. c.if-broken-ne0.true (ap (λ (q : Answer). q.n) e ∙ z)))
-
-pub loop-s-preserved : goal.loop-s-preserved
-loop-s-preserved c =
-    let e = well_formed_as _ _ _ c.requires _ (omega arith) c.bounds-x.ensures c.well_formed-broken.ensures in
-    (omega arith, up_to_pass _ _ c.loop-s.invariant.1 (clean_well_formed _ _ _ (sym (ap (λ (q : Answer). q.n) e) ∙ c.if-broken-ne0.false)))
 
 pub returns : goal.returns
 returns c =
-    let e : c.loop-s.s ≡ c.args.n = omega arith in
-    c.numbered.ensures ∙ sym (rw e at c.loop-s.invariant.1)
+    let r = c.args.«record».now in
+    let ws = c.args.work.now in
+    let asked : ℕ → Answer = λ s. limited (section r s) (well_formed (shown (take part_words (drop (part_words * s) ws))) s (section r s)) in
+    checked_below asked refl refl c.try_for_each.ensures.ran (λ x b q k. search (rules, tests))
+    ∙ ap checked (up_to_same asked _ c.args.n (λ s l. formed_at _ _ _ c.requires s l))

@@ -1,33 +1,25 @@
 -- `jmm::sequence` meets its contract.
-use mathlib.Core.Path.{◌≡◌, sym, ap, ◌∙◌}
+use Prim.Native.Nat.{ℕ, ◌+◌, ◌*◌}
 use native.Mathlib.Omega.{arith}
-use lib.Seq.{length-take-le}
+use mathlib.Core.Path.{refl, ap, ◌∙◌}
+use lib.ListN.{take, drop}
+use Rattle.std.proofs.Common.{rules, tests}
 use Rattle.model.specs.declared.Answer.{Answer}
-use Rattle.model.proofs.Answers.{up_to_none, up_to_pass, up_to_at}
-use Rattle.jmm.proofs.Shown.{committing_as}
-use Rattle.jmm.proofs.Clean.{clean_committing}
+use Rattle.model.specs.Answers.{checked}
+use Rattle.model.specs.Limits.{part_words}
+use Rattle.model.specs.Layout.{section}
+use Rattle.model.specs.Justified.{committing}
+use Rattle.model.specs.WorkArea.{shown}
+use Rattle.model.proofs.Checks.{checked_below}
+use Rattle.positions.specs.Limit.{limited}
+use Rattle.jmm.proofs.Shown.{up_to_same, justified_at}
 use Rattle.jmm.proofs.sequence.Goals as goal
-
-pub loop-j-init : goal.loop-j-init
-loop-j-init c = (omega arith, up_to_none _)
-
-pub slice_bounds-committing-end : goal.slice_bounds-committing-end
-slice_bounds-committing-end c = let room = c.requires.accepted.room in sym (length-take-le 256 c.args.work.now (omega arith))
-
-pub slice_bounds-committing-end-in-loop-j : goal.slice_bounds-committing-end-in-loop-j
-slice_bounds-committing-end-in-loop-j c = let room = c.requires.accepted.room in omega arith
-
-pub returns-then-broken-ne0 : goal.returns-then-broken-ne0
-returns-then-broken-ne0 c =
-    let e = committing_as _ _ _ c.requires _ (omega arith) c.committing-broken.ensures in
-    e ∙ sym (up_to_at _ _ _ (omega arith) c.loop-j.invariant.1 (λ z. c.if-broken-ne0.true (ap (λ (q : Answer). q.n) e ∙ z)))
-
-pub loop-j-preserved : goal.loop-j-preserved
-loop-j-preserved c =
-    let e = committing_as _ _ _ c.requires _ (omega arith) c.committing-broken.ensures in
-    (omega arith, up_to_pass _ _ c.loop-j.invariant.1 (clean_committing _ _ _ _ (sym (ap (λ (q : Answer). q.n) e) ∙ c.if-broken-ne0.false)))
 
 pub returns : goal.returns
 returns c =
-    let e : c.loop-j.j ≡ c.args.k = omega arith in
-    c.numbered.ensures ∙ sym (rw e at c.loop-j.invariant.1)
+    let r = c.args.«record».now in
+    let ws = c.args.work.now in
+    let asked : ℕ → Answer =
+    λ j. limited (section r 0) (limited (section r (j + 1)) (committing (shown (take part_words (drop (part_words * 0) ws))) (shown (take part_words (drop (part_words * (j + 1)) ws))) r (j + 1))) in
+    checked_below asked refl refl c.try_for_each.ensures.ran (λ x b q k. search (rules, tests))
+    ∙ ap checked (up_to_same asked _ c.args.k (λ j l. justified_at _ _ _ c.requires (j + 1) (omega arith)))

@@ -3,13 +3,13 @@ use Prim.Native.Nat.{ℕ, ◌<◌, ◌≤◌}
 use native.Mathlib.Omega.{arith}
 use mathlib.Core.Path.{◌≡◌, sym, ap, ◌∙◌}
 use mathlib.Core.List.{List}
-use mathlib.Core.Bool.{Bool, true, false, not, ◌&&◌, beq, or-false}
+use mathlib.Core.Bool.{Bool, true, false, not, ◌&&◌, beq}
 use lib.Dec.{eqb, ltb}
 use borrow.Author.Tests.{ltb-true, eqb-true, eqb-false, not-true, not-false}
-use Rattle.model.specs.declared.Kind.{Kind}
+use Rattle.model.specs.declared.KindRow.{KindRow}
+use Rattle.model.specs.declared.Target.TheVariants.{Variable}
 use Rattle.model.specs.declared.Header.{Header}
 use Rattle.model.specs.Search.{any}
-use Rattle.model.specs.Kinds.{variable}
 use Rattle.model.specs.Layout.{volatile, size, action, ident, thread, kind, target, commit, place, unused, row, sync, read, write}
 use Rattle.model.specs.Relations.{race, hb}
 use Rattle.model.specs.Refused.{targeted, committed_in, carried, fielded, misfielded, met}
@@ -20,11 +20,11 @@ use Rattle.laws.proofs.Consistent.Kinds.{reads_variable, writes_variable}
 use Rattle.laws.proofs.Consistent.Section.{Passed}
 
 -- a variable is volatile as the table says of the kind that names it
-variable_volatile : (h : Header) (k : Kind) (t : ℕ) → k.target ≡ variable → targeted h k t ≡ true → volatile h t ≡ k.volatile
+variable_volatile : (h : Header) (k : KindRow) (t : ℕ) → k.target ≡ Variable → targeted h k t ≡ true → volatile h t ≡ k.volatile
 unfolding targeted
 variable_volatile h k t v e =
     same_bool (volatile h t) k.volatile
-    (both (ltb t h.variables) (beq (volatile h t) k.volatile) (simp (v, or-false) at e)).1
+    (both (ltb t h.variables) (beq (volatile h t) k.volatile) (rw v at e)).1
 
 -- The fields of an action that orders speak of
 record Fields (h : Header) (x : List ℕ) (a : ℕ) : Type 0 where

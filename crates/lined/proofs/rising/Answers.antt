@@ -1,30 +1,36 @@
 -- `lined::rising` meets its contract: the actions before a are fit, and their places below `due`.
-use mathlib.Core.Path.{◌≡◌, sym, ◌∙◌}
+use mathlib.Core.Path.{sym, ◌∙◌}
 use native.Mathlib.Omega.{arith}
 use Rattle.model.proofs.Search.{any_none, any_pass}
-use Rattle.lined.proofs.Line.{unfit_broad, unfit_place, fit_place, reached_none, reached_more, due_most, refused, granted}
+use Rattle.lined.proofs.Line.{unfit_broad, unfit_place, fit_place, fit_other, reached_none, reached_placed, reached_other, refused}
 use Rattle.lined.proofs.rising.Goals as goal
+use Rattle.lined.proofs.rising.Goals.{in-Some+else-p-due, in_default}
 
 pub loop-a-init : goal.loop-a-init
-loop-a-init c = (omega arith, omega arith, any_none _, reached_none _)
+loop-a-init c = record { high = omega arith; fit = any_none _; below = reached_none _ }
 
 pub returns-then-broad : goal.returns-then-broad
 returns-then-broad c = refused _ _ _ (omega arith) (unfit_broad _ _ (sym c.broad.ensures ∙ c.if-broad.true))
 
-pub returns-then-chosen_place-due : goal.returns-then-chosen_place-due
-returns-then-chosen_place-due c =
-    refused _ _ _ (omega arith)
-    (unfit_place _ _ _ c.loop-a.invariant.3 _ c.placed-by.ensures c.place-p.ensures (rw c.chosen_place.ensures at c.if-chosen_place-due.true))
+pub returns-then-p-due : goal.returns-then-p-due
+returns-then-p-due c =
+    refused _ _ _ (omega arith) (unfit_place _ _ _ c.loop-a.invariant.below c.in-Some.ensures c.if-p-due.true)
 
 pub loop-a-preserved : goal.loop-a-preserved
 loop-a-preserved c =
-    let above = rw c.chosen_place.ensures at c.if-chosen_place-due.false in (
-      omega arith,
-      rw c.chosen_place-due.ensures (due_most c.placed-by.result c.place-p.result c.loop-a.due (omega arith) c.loop-a.invariant.1),
-      any_pass _ _ c.loop-a.invariant.2 (fit_place _ _ _ c.loop-a.invariant.3 _ c.placed-by.ensures c.place-p.ensures (sym c.broad.ensures ∙ c.if-broad.false) above),
-      rw c.chosen_place-due.ensures (reached_more _ _ _ c.loop-a.invariant.3 _ c.placed-by.ensures c.place-p.ensures above),
-    )
-
-pub returns : goal.returns
-returns c =
-    let e : c.loop-a.a ≡ c.args.n = omega arith in granted _ _ (rw e at c.loop-a.invariant.2)
+    let i = c.loop-a.invariant in
+    let own = sym c.broad.ensures ∙ c.if-broad.false in
+    elim c.match-place_of.branch [
+      | in-Some+else-p-due w ↦
+          record {
+            high = omega arith;
+            fit = any_pass _ _ i.fit (fit_place _ _ _ i.below w.in-Some.ensures own w.if-p-due.false);
+            below = rw w.due-is (reached_placed _ _ _ i.below w.in-Some.ensures w.if-p-due.false);
+          }
+      | in_default w ↦
+          record {
+            high = omega arith;
+            fit = any_pass _ _ i.fit (fit_other _ _ _ i.below w.in_default.ensures own);
+            below = rw w.due-is (reached_other _ _ _ i.below w.in_default.ensures);
+          }
+    ]

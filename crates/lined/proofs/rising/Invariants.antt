@@ -8,4 +8,9 @@ use Rattle.lined.specs.Line.{reached, unfit}
 use Rattle.lined.proofs.rising.Given as goal
 
 abbrev pub invariant-loop-a : goal.invariant-loop-a
-invariant-loop-a l = (l.a ≤ l.n) × (l.due ≤ 65536) × (any l.a (unfit l.x) ≡ false) × ((p : ℕ) → reached l.x l.a p ≡ ltb p l.due)
+invariant-loop-a l =
+    record {
+      high : l.due ≤ 65536;
+      fit : any l.a (unfit l.x) ≡ false;
+      below : (p : ℕ) → reached l.x l.a p ≡ ltb p l.due;
+    }

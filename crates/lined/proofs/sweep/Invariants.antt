@@ -1,5 +1,4 @@
 -- `lined::sweep` meets its contract: the actions from a on are passed.
-use Prim.Native.Nat.{◌≤◌}
 use mathlib.Core.Path.{◌≡◌}
 use Rattle.model.specs.Limits.{max_actions}
 use Rattle.model.specs.Layout.{thread}
@@ -10,7 +9,8 @@ use Rattle.lined.proofs.sweep.Given as goal
 
 abbrev pub invariant-loop-a : goal.invariant-loop-a
 invariant-loop-a l =
-    (l.a ≤ l.n) × (l.part ≡ table max_actions (passed l.x l.a)) × (l.later ≡ table 64 (noted l.x (thread l.x) l.a)) × (l.through ≡ table 384 (noted l.x (taken_row l.x) l.a))
-
-abbrev pub decreases-loop-a : goal.decreases-loop-a
-decreases-loop-a l = l.a
+    record {
+      filled : l.part ≡ table max_actions (passed l.x l.a);
+      threads : l.later ≡ table 64 (noted l.x (thread l.x) l.a);
+      objects : l.through ≡ table 384 (noted l.x (taken_row l.x) l.a);
+    }

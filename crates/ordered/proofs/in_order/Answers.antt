@@ -1,20 +1,36 @@
 -- `ordered::in_order` meets its contract.
+use native.Mathlib.Omega.{arith}
+use mathlib.Core.Path.{sym, ◌∙◌}
 use Rattle.model.specs.Rules.{ordered}
-use Rattle.model.proofs.Answers.{chains}
+use Rattle.model.proofs.Checks.{checked_rule, handed}
+use Rattle.model.proofs.Checked.{on, ended}
 use Rattle.ordered.proofs.in_order.Goals as goal
 
-pub returns-then-r-ne0 : goal.returns-then-r-ne0
+pub returns-in_err-rule : goal.returns-in_err-rule
 unfolding ordered
-returns-then-r-ne0 c = search chains
+returns-in_err-rule c =
+    handed c.from_residual.ensures
+    ∙ ended _ _ (sym c.in_err-rule.was ∙ checked_rule _ _ _ _ (omega arith) c.first11.ensures c.rule.ensures)
 
-pub returns-then-r-ne0-2 : goal.returns-then-r-ne0-2
+pub returns-in_err-rule-2 : goal.returns-in_err-rule-2
 unfolding ordered
-returns-then-r-ne0-2 c = search chains
+returns-in_err-rule-2 c =
+    handed c.from_residual-in_err-rule-2.ensures
+    ∙ on _ _ (sym c.in_ok-rule.was ∙ checked_rule _ _ _ _ (omega arith) c.first11.ensures c.rule.ensures)
+    (ended _ _ (sym c.in_err-rule-2.was ∙ checked_rule _ _ _ _ (omega arith) c.first12.ensures c.rule-2.ensures))
 
-pub returns-then-r-ne0-3 : goal.returns-then-r-ne0-3
+pub returns-in_err-rule-3 : goal.returns-in_err-rule-3
 unfolding ordered
-returns-then-r-ne0-3 c = search chains
+returns-in_err-rule-3 c =
+    handed c.from_residual-in_err-rule-3.ensures
+    ∙ on _ _ (sym c.in_ok-rule.was ∙ checked_rule _ _ _ _ (omega arith) c.first11.ensures c.rule.ensures)
+    (on _ _ (sym c.in_ok-rule-2.was ∙ checked_rule _ _ _ _ (omega arith) c.first12.ensures c.rule-2.ensures)
+    (ended _ _ (sym c.in_err-rule-3.was ∙ checked_rule _ _ _ _ (omega arith) c.least13.ensures c.rule-3.ensures)))
 
 pub returns : goal.returns
 unfolding ordered
-returns c = search chains
+returns c =
+    on _ _ (sym c.in_ok-rule.was ∙ checked_rule _ _ _ _ (omega arith) c.first11.ensures c.rule.ensures)
+    (on _ _ (sym c.in_ok-rule-2.was ∙ checked_rule _ _ _ _ (omega arith) c.first12.ensures c.rule-2.ensures)
+    (on _ _ (sym c.in_ok-rule-3.was ∙ checked_rule _ _ _ _ (omega arith) c.least13.ensures c.rule-3.ensures)
+    (checked_rule _ _ _ _ (omega arith) c.first14.ensures c.rule-4.ensures)))

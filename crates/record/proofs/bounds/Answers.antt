@@ -26,4 +26,4 @@ unfolding bounded start
 returns c =
     let e : c.loop.counter ≡ c.args.s = omega arith in
     let p : c.loop.p ≡ start c.args.r.now c.args.s = rw e at c.loop.invariant.1 in
-    rw (c.smaller.ensures, c.smaller-2.ensures, c.past.ensures, p)
+    rw (c.min.ensures, c.min-2.ensures, c.past.ensures, p)

@@ -2,11 +2,11 @@
 use Prim.Native.Nat.{◌+◌, ◌≤◌}
 use mathlib.Core.Path.{◌≡◌}
 use lib.ListN.{length}
-use Rattle.model.specs.Answers.{pass, up_to}
+use Rattle.model.specs.Answers.{up_to}
 use Rattle.model.specs.Layout.{start, K}
 use Rattle.record.proofs.Cuts.{cuts}
 use Rattle.record.proofs.lengths.Given as goal
 
 abbrev pub invariant-loop-s : goal.invariant-loop-s
 invariant-loop-s l =
-    (l.s ≤ K l.r + 1) × (l.p ≡ start l.r l.s) × (l.p ≤ length l.r) × (up_to l.s (cuts l.r) ≡ pass)
+    (l.s ≤ K l.r + 1) × (l.p ≡ start l.r l.s) × (l.p ≤ length l.r) × ((up_to l.s (cuts l.r)).n ≡ 0)

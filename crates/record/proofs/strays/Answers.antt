@@ -7,7 +7,7 @@ use mathlib.Core.Bool.{Bool, true, false, not, true≢false}
 use lib.Dec.{eqb}
 use lib.Pow.{pow_pos, shr-shr, shr_lt}
 use borrow.Author.Rules.{rules}
-use borrow.Author.Tests.{eq-eqb, ne_eqb, le-leb, lt-leb}
+use borrow.Author.Tests.{eq-eqb, ne_eqb, le-ltb, le-leb, lt-leb}
 use Rattle.model.specs.declared.Header.{Header}
 use Rattle.model.specs.Search.{any}
 use Rattle.model.specs.Refused.{stray}
@@ -54,8 +54,8 @@ module _ (h : Header) where
       go true e = rw (ne_eqb rest 0 (λ z. true≢false (sym e ∙ clear z)))
       go false e = rw (eq-eqb rest 0 (cleared small l e))
 
-pub returns-then-h-ge-MAX_VARIABLES : goal.returns-then-h-ge-MAX_VARIABLES
-returns-then-h-ge-MAX_VARIABLES c = let h = c.args.h in sym (any_never (stray h) 64 (λ v l. below h v (omega arith)))
+pub returns-else-h-lt-MAX_VARIABLES : goal.returns-else-h-lt-MAX_VARIABLES
+returns-else-h-lt-MAX_VARIABLES c = let h = c.args.h in le-ltb h.variables 64 c.if-h-lt-MAX_VARIABLES.false ∙ sym (any_never (stray h) 64 (λ v l. below h v (omega arith)))
 
-pub returns : goal.returns
-returns c = strayed c.args.h (search rules) (search rules)
+pub returns-then-h-lt-MAX_VARIABLES : goal.returns-then-h-lt-MAX_VARIABLES
+returns-then-h-lt-MAX_VARIABLES c = strayed c.args.h (search rules) (search rules)

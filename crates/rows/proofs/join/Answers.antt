@@ -13,4 +13,4 @@ returns-then-from-other c = sym (joined_lacks _ _ _ _ _ c.if-from-other.true)
 
 pub returns : goal.returns
 returns c =
-    joined_by _ _ _ _ _ (lit< tt) (omega arith) (omega arith) (λ i. (c.type_inv.part i).fits) c.join_if.ensures
+    joined_by _ _ _ _ _ (lit< tt) (omega arith) (omega arith) (λ i. (c.type_inv.part i).fits) c.take_in.ensures

@@ -1,9 +1,8 @@
 -- `rows::round` meets its contract. The loop's invariant: the rows before `a` are through round k. The words, being lent ones, have 64 bits, so those bits settle them.
-use mathlib.Core.Path.{◌≡◌, sym}
+use mathlib.Core.Path.{◌≡◌, refl, sym}
 use native.Mathlib.Omega.{arith}
 use borrow.Author.Rules.{rules}
 use lib.Dec.{lit<}
-use Rattle.model.proofs.Words.{bit_in}
 use Rattle.rows.proofs.Rounds.{round_none, round_more}
 use Rattle.rows.proofs.Steps.{rounded_outside, rounded_wide, rounded_past, rounded_by}
 use Rattle.rows.proofs.round.Goals as goal
@@ -20,14 +19,11 @@ returns-then-n-part c = sym (rounded_past _ _ _ _ c.if-n-part.true)
 pub loop-a-init : goal.loop-a-init
 loop-a-init c = (omega arith, search rules, round_none _ _ _)
 
-pub bounds-part-a : goal.bounds-part-a
-bounds-part-a c = omega (arith, c.loop-a.invariant.2.long)
-
 pub loop-a-preserved : goal.loop-a-preserved
 loop-a-preserved c = (
   omega arith,
   λ i. (c.type_inv.part i).fits,
-  round_more _ _ _ c.loop-a.part c.loop-a.a _ c.loop-a.invariant.2 c.copied-taken.ensures (sym (bit_in _ _ _ _ (omega arith))) c.join_if.ensures,
+  round_more _ _ _ c.loop-a.part c.loop-a.a _ c.loop-a.invariant.2 c.copied-taken.ensures refl c.follow.ensures,
 )
 
 pub shape_of-part : goal.shape_of-part

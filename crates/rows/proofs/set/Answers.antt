@@ -7,13 +7,15 @@ use lib.Dec.{lit<}
 use lib.Pow.{shl_exact}
 use Rattle.rows.proofs.Marked.{marked_wide, marked_past, marked_in}
 use Rattle.rows.proofs.set.Goals as goal
-
-pub returns-then-b : goal.returns-then-b
-returns-then-b c = sym (marked_wide _ _ _ _ c.if-b.true)
+use Rattle.rows.proofs.set.Goals.{else-b-via-then-b+else-i-part, else-b-via-else-b}
 
 pub returns-then-i-part : goal.returns-then-i-part
-returns-then-i-part c = sym (marked_past _ _ _ _ c.if-b.false c.if-i-part.true)
+returns-then-i-part c =
+    rw (shl_exact 1 (c.args.b % 64) 64 (lit< tt) (omega arith), one-mul) (sym (marked_in _ _ _ _ c.if-b.true))
 
-pub returns : goal.returns
-returns c =
-    rw (shl_exact 1 (c.args.b % 64) 64 (lit< tt) (omega arith), one-mul) (sym (marked_in _ _ _ _ c.if-b.false))
+pub returns-else-b : goal.returns-else-b
+returns-else-b c =
+    elim c.else-b.branch [
+      | else-b-via-then-b+else-i-part w ↦ sym (marked_past _ _ _ _ w.if-b.true w.if-i-part.false)
+      | else-b-via-else-b w ↦ sym (marked_wide _ _ _ _ w.if-b.false)
+    ]

@@ -10,26 +10,26 @@ use Rattle.justify.proofs.found.mask.Goals as goal
 use Rattle.justify.proofs.found.mask.Goals.{then-chosen, else-chosen}
 
 pub loop-b-init : goal.loop-b-init
-loop-b-init c = (search rules, refl, masked_none _ row_words)
+loop-b-init g c = (search rules, refl, λ q h. masked_none q row_words)
 
 pub slice_bounds-set-end : goal.slice_bounds-set-end
-slice_bounds-set-end c = sym c.loop-b.invariant.1
+slice_bounds-set-end g c = sym c.loop-b.invariant.1
 
 pub loop-b-preserved : goal.loop-b-preserved
-loop-b-preserved c =
+loop-b-preserved g c =
     elim c.if-chosen.branch [
       | then-chosen w ↦ (
         search rules,
         ap length (w.m-is ∙ w.set.ensures) ∙ length_marked _ _ _ _ ∙ c.loop-b.invariant.1,
-        rw (w.m-is ∙ w.set.ensures) (masked_more _ _ _ c.loop-b.invariant.2 (omega arith) c.loop-b.invariant.1 (rw c.chosen.ensures at w.if-chosen.true)),
+        λ q h. rw (w.m-is ∙ w.set.ensures) (masked_more q _ _ (c.loop-b.invariant.2 q h) (omega arith) c.loop-b.invariant.1 (sym (h _ _ c.loop-b-test.true c.chosen.ensures) ∙ w.if-chosen.true)),
       )
       | else-chosen w ↦ (
         search rules,
         ap length w.m-is ∙ c.loop-b.invariant.1,
-        rw w.m-is (masked_skip _ _ _ c.loop-b.invariant.2 (rw c.chosen.ensures at w.if-chosen.false)),
+        λ q h. rw w.m-is (masked_skip q _ _ (c.loop-b.invariant.2 q h) (sym (h _ _ c.loop-b-test.true c.chosen.ensures) ∙ w.if-chosen.false)),
       )
     ]
 
 pub returns : goal.returns
-returns c =
+returns g c =
     let e : c.loop-b.b ≡ c.args.n = omega arith in rw e at c.loop-b.invariant.2

@@ -1,56 +1,63 @@
--- `ordered::monitors::held` meets its contract: `locks` and `unlocks` count those of the first j in the list.
+-- `ordered::monitors::held` meets its contract: `locks` and `unlocks` count those in the list so far.
 use Prim.Native.Nat.{ℕ}
-use native.Mathlib.Omega.{arith}
-use mathlib.Core.Path.{◌≡◌, refl, sym, ◌∙◌}
-use mathlib.Core.Bool.{Bool, true, false, ◌&&◌, ◌||◌, and-false, or-true}
+use mathlib.Core.Path.{◌≡◌, refl, ◌∙◌}
+use mathlib.Core.Bool.{Bool, true, false, not, ◌&&◌, ◌||◌, and-false}
 use mathlib.Core.List.{List}
 use lib.Dec.{eqb, ltb}
-use lib.ListN.{get_or}
-use Rattle.model.specs.Search.{count}
+use lib.ListN.{take}
+use borrow.Author.Tests.{eqb-true}
+use Rattle.std.specs.Prelude.{Option}
+use Rattle.std.specs.List.{count_by}
+use Rattle.std.proofs.lemmas.List.{take_all}
 use Rattle.model.specs.Layout.{size, thread, kind, target, place}
 use Rattle.model.specs.Rules.{held, monitored}
-use Rattle.model.proofs.Search.{count_none, count_more, count_same}
-use Rattle.positions.specs.Lists.{Listed}
-use Rattle.positions.proofs.Listing.{count_listed, listed_fits}
-use Rattle.ordered.specs.Monitors.{monitoring, counted}
+use Rattle.model.proofs.Search.{count_same}
+use Rattle.positions.specs.Lists.{positions}
+use Rattle.positions.proofs.Listing.{count_listed}
+use Rattle.ordered.specs.Monitors.{monitoring, admits, counted}
 use Rattle.ordered.proofs.monitors.held.Goals as goal
 
--- what counts is of a kind in the list
-of_kind : (s l p q r : Bool) → (s ≡ true → l ≡ true) → s && p && q && r ≡ l && (s && p && q && r)
-of_kind true l p q r f = rw (f refl)
-of_kind false l p q r f = sym (and-false l)
+-- an action in the list is a lock, or else an unlock
+lock : (k : ℕ) (p q r : Bool) → (eqb k 5 || eqb k 6) && (eqb k 5 && (p && q && r)) ≡ eqb k 5 && p && q && r
+lock k p q r = go (eqb k 5)
+  where
+    go : (b : Bool) → (b || eqb k 6) && (b && (p && q && r)) ≡ b && p && q && r
+    go true = refl
+    go false = and-false (eqb k 6)
 
--- the locks or the unlocks before a's place
-listed_monitored :
-    (x : List ℕ) (a : ℕ) (anyone : Bool) {v p t : ℕ} → v ≡ target x a → p ≡ place x a → t ≡ thread x a → {l : List ℕ} {m : ℕ} →
-    Listed (monitoring x) (size x) l m → (k : ℕ) → ((n : ℕ) → eqb n k ≡ true → eqb n 5 || eqb n 6 ≡ true) →
-    count m (λ i. counted x k v p anyone t (get_or l i 0)) ≡ monitored x a (λ s. anyone || eqb s (thread x a)) k
-unfolding monitored
-listed_monitored x a anyone {v} {p} {t} e q s {l} h k f =
-    rw (← e, ← q, ← s)
-    (sym
-    (count_same _ _ (size x) (λ b u. of_kind (eqb (kind x b) k) (monitoring x b) (eqb (target x b) v) (ltb (place x b) p) (anyone || eqb (thread x b) t) (f (kind x b)))
-    ∙ count_listed (monitoring x) (counted x k v p anyone t) l h))
+unlock : (k : ℕ) (p q r : Bool) → (eqb k 5 || eqb k 6) && (not (eqb k 5) && (p && q && r)) ≡ eqb k 6 && p && q && r
+unlock k p q r = go (eqb k 5) refl
+  where
+    go : (b : Bool) → eqb k 5 ≡ b → (b || eqb k 6) && (not b && (p && q && r)) ≡ eqb k 6 && p && q && r
+    go true e = rw (eqb-true k 5 e)
+    go false e = either (eqb k 6)
+      where
+        either : (b : Bool) → b && (p && q && r) ≡ b && p && q && r
+        either true = refl
+        either false = refl
 
-pub loop-j-init : goal.loop-j-init
-loop-j-init c = (omega arith, omega arith, omega arith, sym (count_none _), sym (count_none _))
+-- the locks and the unlocks before a's place
+module _ (x : List ℕ) (a : ℕ) (by : Option ℕ) {v p : ℕ} (e : v ≡ target x a) (q : p ≡ place x a) {l : List ℕ} (h : l ≡ positions (monitoring x) (size x)) {m : ℕ} where
+  all_locks : m ≡ count_by (λ b. eqb (kind x b) 5 && counted x v p by b) l → m ≡ monitored x a (admits by) 5
+  unfolding monitored
+  all_locks t =
+      count_listed (monitoring x) (λ b. eqb (kind x b) 5 && counted x v p by b) (size x) h t
+      ∙ rw (← e, ← q)
+      (count_same _ _ (size x) (λ b u. lock (kind x b) (eqb (target x b) v) (ltb (place x b) p) (admits by (thread x b))))
 
-pub bounds-list-j : goal.bounds-list-j
-bounds-list-j c = omega (arith, listed_fits c.requires)
-
-pub loop-j-preserved : goal.loop-j-preserved
-loop-j-preserved c =
-    let j = c.loop-j.j in (
-      omega arith,
-      omega arith,
-      omega arith,
-      rw (count_more _ j, c.loop-j.invariant.3, c.counted-locks.ensures.0),
-      rw (count_more _ j, c.loop-j.invariant.4, c.counted-unlocks.ensures.0),
-    )
+  all_unlocks : m ≡ count_by (λ b. not (eqb (kind x b) 5) && counted x v p by b) l → m ≡ monitored x a (admits by) 6
+  unfolding monitored
+  all_unlocks t =
+      count_listed (monitoring x) (λ b. not (eqb (kind x b) 5) && counted x v p by b) (size x) h t
+      ∙ rw (← e, ← q)
+      (count_same _ _ (size x) (λ b u. unlock (kind x b) (eqb (target x b) v) (ltb (place x b) p) (admits by (thread x b))))
 
 pub returns : goal.returns
 unfolding held
 returns c =
-    let e : c.loop-j.j ≡ c.args.count = omega arith in
-    let all = listed_monitored c.args.x.now c.args.a c.args.anyone c.target-monitor.ensures c.place-place.ensures c.thread-thread.ensures c.requires in
-    rw (c.loop-j.invariant.3, c.loop-j.invariant.4, e, all 5 (λ n h. rw h), all 6 (λ n h. rw h (or-true (eqb n 5))))
+    let x = c.args.x.now in
+    let l = c.loop-b in
+    let whole : take l.b-index c.args.list.now ≡ c.args.list.now = take_all l.b-index c.args.list.now c.loop-b-test.false in
+    let locks = all_locks x c.args.a c.args.by c.target-monitor.ensures c.place-place.ensures c.requires (rw whole at l.invariant.locked) in
+    let unlocks = all_unlocks x c.args.a c.args.by c.target-monitor.ensures c.place-place.ensures c.requires (rw whole at l.invariant.unlocked) in
+    rw (locks, unlocks)

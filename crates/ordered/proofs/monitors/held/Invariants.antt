@@ -1,12 +1,15 @@
--- `ordered::monitors::held` meets its contract: `locks` and `unlocks` count those of the first j in the list.
-use Prim.Native.Nat.{◌≤◌}
+-- `ordered::monitors::held` meets its contract: `locks` and `unlocks` count those in the list so far.
 use mathlib.Core.Path.{◌≡◌}
-use lib.ListN.{get_or}
-use Rattle.model.specs.Search.{count}
+use mathlib.Core.Bool.{not, ◌&&◌}
+use lib.Dec.{eqb}
+use lib.ListN.{take}
+use Rattle.std.specs.List.{count_by}
+use Rattle.model.specs.Layout.{kind}
 use Rattle.ordered.specs.Monitors.{counted}
 use Rattle.ordered.proofs.monitors.held.Given as goal
 
-abbrev pub invariant-loop-j : goal.invariant-loop-j
-invariant-loop-j l =
-    (l.j ≤ l.count) × (l.locks ≤ l.j) × (l.unlocks ≤ l.j) × (l.locks ≡ count l.j (λ i. counted l.x 5 l.monitor l.place l.anyone l.thread (get_or l.list i 0)))
-    × (l.unlocks ≡ count l.j (λ i. counted l.x 6 l.monitor l.place l.anyone l.thread (get_or l.list i 0)))
+abbrev pub invariant-loop-b : goal.invariant-loop-b
+invariant-loop-b l = record {
+  locked : l.locks ≡ count_by (λ b. eqb (kind l.x b) 5 && counted l.x l.monitor l.place l.by b) (take l.b-index l.list);
+  unlocked : l.unlocks ≡ count_by (λ b. not (eqb (kind l.x b) 5) && counted l.x l.monitor l.place l.by b) (take l.b-index l.list);
+}

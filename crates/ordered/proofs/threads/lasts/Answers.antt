@@ -26,5 +26,5 @@ loop-b-preserved c =
 
 pub returns : goal.returns
 returns c =
-    let e : c.loop-b.b ≡ size c.args.x.now = omega (arith, c.size-n.ensures) in
+    let e : c.loop-b.b ≡ size c.args.x.now = omega (arith, c.size-b-end.ensures) in
     rw e at c.loop-b.invariant.2

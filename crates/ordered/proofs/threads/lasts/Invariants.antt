@@ -8,4 +8,4 @@ use Rattle.ordered.specs.Threads.{Largest}
 use Rattle.ordered.proofs.threads.lasts.Given as goal
 
 abbrev pub invariant-loop-b : goal.invariant-loop-b
-invariant-loop-b l = (l.b ≤ l.n) × (length l.last ≡ keys) × Largest (thread l.x) (λ b. b) l.b l.last
+invariant-loop-b l = (l.b ≤ l.b-end) × (length l.last ≡ keys) × Largest (thread l.x) (λ b. b) l.b l.last

@@ -1,11 +1,12 @@
--- `rules::races::least_pair` meets its contract: no action before a races with one after it.
+-- `rules::races::least_pair` meets its contract: the least pair is in the rest.
 use mathlib.Core.Path.{◌≡◌}
-use Rattle.model.specs.Search.{count}
+use lib.ListN.{length}
 use Rattle.model.specs.WorkArea.{shown}
-use Rattle.model.specs.Relations.{plain}
-use Rattle.model.proofs.Scan.{Scanned}
-use Rattle.rules.proofs.Pairs.{paired}
+use Rattle.rules.specs.Searches.{races, least_pair}
 use Rattle.rules.proofs.races.least_pair.Given as goal
 
 abbrev pub invariant-loop-a : goal.invariant-loop-a
-invariant-loop-a l = (l.i ≡ count l.a (plain l.x)) × Scanned (paired (shown l.part) l.x) l.n l.a
+invariant-loop-a l = let t = races (shown l.part) l.x in least_pair t l.rest ≡ least_pair t l.plain
+
+abbrev pub decreases-loop-a : goal.decreases-loop-a
+decreases-loop-a l = length l.rest

@@ -1,5 +1,0 @@
--- `table::write` meets its contract.
-use Rattle.table.proofs.write.Goals as goal
-
-pub returns : goal.returns
-returns c = rw (c.row_of.ensures, c.kind.ensures)

@@ -105,11 +105,14 @@ fn missing(r: &[u8], i: u8, edge: Edge) -> bool
 pub fn loose(r: &[u8], f: &[u8], part: &[u64], i: u8, x: u16, y: u16) -> bool
     ensures { result ≡ loose (shown part.now) r.now f.now i x y }
 {
+    if po(f, x, y) || between(part, size(f), x, y) {
+        return false;
+    }
     let edge = Edge {
         from: ident(f, x),
         to: ident(f, y),
         first: x,
         second: y,
     };
-    !po(f, x, y) && !between(part, size(f), x, y) && missing(r, i, edge)
+    missing(r, i, edge)
 }

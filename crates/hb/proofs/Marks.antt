@@ -15,14 +15,16 @@ use Rattle.model.specs.Limits.{max_actions}
 use Rattle.model.specs.declared.Class.TheVariants.{NothingGiven}
 use Rattle.model.specs.Kinds.{number_of}
 use Rattle.model.specs.Relations.{sw}
-use Rattle.rows.specs.Part.{marked, table}
+use Rattle.rows.specs.Part.{marked, rounded, table}
+use Rattle.rows.proofs.Marked.{length_marked}
+use Rattle.rows.proofs.Steps.{length_rounded}
 use Rattle.rows.proofs.Part.{table_same, table_marked}
 use Rattle.relations.specs.declared.Offer.{Offer}
 use Rattle.relations.specs.Objects.{given, offered, accepts}
 use Rattle.relations.proofs.Objects.{accepts_sw, sw_nothing_given}
 use Rattle.positions.specs.Lists.{positions}
 use Rattle.hb.specs.Passing.{receives}
-use Rattle.hb.specs.Edges.{from}
+use Rattle.hb.specs.Edges.{from, rounds}
 use Rattle.hb.proofs.Hands.{unreceived}
 
 module _ (x : List ℕ) (a : ℕ) where
@@ -81,3 +83,15 @@ module _ (x : List ℕ) (a : ℕ) where
                 | yes h ↦ lt-ltb d n h ∙ sym (lt-ltb d (suc n) (omega arith))
                 | no g ↦ le-ltb d n (omega arith) ∙ sym (le-ltb d (suc n) (omega arith))
               ]
+
+  pub length_from : (list ws : List ℕ) → length (from x a list ws) ≡ length ws
+  length_from [] ws = refl
+  length_from (b ∷ list) ws = length_from list (cond (sw x a b) (marked ws a b) ws) ∙ step (sw x a b)
+    where
+      step : (t : Bool) → length (cond t (marked ws a b) ws) ≡ length ws
+      step true = length_marked _ ws a b
+      step false = refl
+
+pub length_rounds : (n : ℕ) (list ws : List ℕ) → length (rounds n list ws) ≡ length ws
+length_rounds n [] ws = refl
+length_rounds n (k ∷ list) ws = length_rounds n list (rounded ws n k) ∙ length_rounded _ ws n k

@@ -11,7 +11,7 @@ use borrow.Author.Tests.{eq-eqb, ne_eqb, eqb-true, eqb-false, ltb-true, lt-ltb}
 use Rattle.model.specs.declared.Answer.{Answer}
 use Rattle.model.specs.Search.{any, first, found, none}
 use Rattle.model.specs.Answers.{answer, pass, when, naming, rule, rule₂, up_to, ◌then◌}
-use Rattle.model.proofs.Search.{found_none, found_something, found_same, any_same, any_first}
+use Rattle.model.proofs.Search.{found_none, found_something, found_at, found_same, any_same, any_at, any_first}
 
 found_within : (p : ℕ → Bool) (n : ℕ) → (found n p ≡ none → ⊥) → found n p < n
 found_within p n h = let (e, l) = found_something p n h in rw e at (ltb-true (first n p) n l)
@@ -23,9 +23,32 @@ then_next r q h = rw (◌then◌, eq-eqb r.n 0 h)
 pub then_ends : (r q : Answer) → (r.n ≡ 0 → ⊥) → r then q ≡ r
 then_ends r q h = rw (◌then◌, ne_eqb r.n 0 h)
 
-pub up_to_more : (f : ℕ → Answer) (n : ℕ) → up_to (n + 1) f ≡ up_to n f then f n
-unfolding up_to
-up_to_more f n = rw add-one
+pub then_assoc : (r q t : Answer) → (r then q) then t ≡ r then q then t
+then_assoc r q t = go (eqb r.n 0) refl
+  where
+    go : (b : Bool) → eqb r.n 0 ≡ b → (r then q) then t ≡ r then q then t
+    go true e =
+        let h : r.n ≡ 0 = eqb-true r.n 0 e in
+        ap (λ (k : Answer). k then t) (then_next r q h) ∙ sym (then_next r (q then t) h)
+    go false e = simp (◌then◌, e)
+
+module _ (f : ℕ → Answer) where
+  pub up_to_more : (n : ℕ) → up_to (n + 1) f ≡ up_to n f then f n
+  unfolding up_to
+  up_to_more n = rw add-one
+
+  -- nothing broken below n, and nothing at n
+  pub up_to_pass : (n : ℕ) → up_to n f ≡ pass → f n ≡ pass → up_to (n + 1) f ≡ pass
+  up_to_pass n h e = rw (up_to_more n, h) e
+
+  -- nothing broken below a, and a number at a
+  pub up_to_at : (n a : ℕ) → a < n → (up_to a f).n ≡ 0 → ((f a).n ≡ 0 → ⊥) → up_to n f ≡ f a
+  unfolding up_to
+  up_to_at zero a l h e = absurd (let z : ⊥ = omega arith in z)
+  up_to_at (suc n) a l h e =
+      ⊎_elim (λ (q : a ≡ n). rw (← q) (then_next (up_to a f) (f a) h))
+      (λ (q : a < n). rw (up_to_at n a q h e) (then_ends (f a) (f n) e))
+      (eq-or-lt_of_le (let z : a ≤ n = omega arith in z))
 
 module _ (N s : ℕ) where
   pub naming_none : (a b : ℕ) → a ≡ none → naming N s a b ≡ pass
@@ -34,14 +57,32 @@ module _ (N s : ℕ) where
   pub naming_at : (a b : ℕ) → a < none → naming N s a b ≡ answer N s a b
   naming_at a b h = rw (naming, ne_eqb a none (λ e. omega arith))
 
-  -- p holds nowhere below n
-  pub rule_none : (n : ℕ) (p : ℕ → Bool) → any n p ≡ false → rule N s n p ≡ pass
-  unfolding rule
-  rule_none n p h = naming_none (found n p) none (found_none p n h)
+  -- p holds nowhere below n; p holds at a and nowhere before
+  module _ (n : ℕ) (p : ℕ → Bool) where
+    pub rule_none : any n p ≡ false → rule N s n p ≡ pass
+    unfolding rule
+    rule_none h = naming_none (found n p) none (found_none p n h)
+
+    pub rule_at : (a : ℕ) → n ≤ none → a < n → any a p ≡ false → p a ≡ true → rule N s n p ≡ answer N s a none
+    unfolding rule
+    rule_at a f l h e = rw (found_at p n a l h e) (naming_at a none (omega arith))
 
   pub rule_same : (n : ℕ) (p q : ℕ → Bool) → ((a : ℕ) → a < n → p a ≡ q a) → rule N s n p ≡ rule N s n q
   unfolding rule
   rule_same n p q h = rw (found_same p q n h)
+
+  -- the same for a test of two positions: it holds between none below n; it holds between x and y, from no smaller x, and to no smaller y
+  module _ (n : ℕ) (p : ℕ → ℕ → Bool) where
+    pub rule₂_none : any n (λ x. any n (p x)) ≡ false → rule₂ N s n p ≡ pass
+    unfolding rule₂
+    rule₂_none h =
+        let x = found n (λ x. any n (p x)) in naming_none x (found n (p x)) (found_none (λ x. any n (p x)) n h)
+
+    pub rule₂_at : (x y : ℕ) → n ≤ none → x < n → y < n → any x (λ x. any n (p x)) ≡ false → any y (p x) ≡ false → p x y ≡ true → rule₂ N s n p ≡ answer N s x y
+    unfolding rule₂
+    rule₂_at x y f l m h i e =
+        rw (found_at (λ x. any n (p x)) n x l h (any_at (p x) n y m e), found_at (p x) n y m i e)
+        (naming_at x y (omega arith))
 
   pub rule₂_same : (n : ℕ) (p q : ℕ → ℕ → Bool) → ((x y : ℕ) → x < n → y < n → p x y ≡ q x y) → rule₂ N s n p ≡ rule₂ N s n q
   unfolding rule₂

@@ -1,16 +1,13 @@
 -- Checks as results: what `?` hands on in a chain of checks, and a loop of checks that ends at the first that is broken.
-use Prim.Native.Nat.{ℕ, zero, suc, ◌+◌, ◌<◌, ◌≤◌}
-use native.Mathlib.Omega.{arith}
-use native.Mathlib.Nat.{eq-or-lt_of_le}
+use Prim.Native.Nat.{ℕ, ◌+◌, ◌<◌}
 use mathlib.Core.Path.{◌≡◌, refl, sym, ap, ◌∙◌}
-use mathlib.Core.Logic.{⊎_elim}
 use mathlib.Core.Bool.{Bool, true, false, not}
 use lib.Dec.{eqb}
 use borrow.Author.Tests.{eq-eqb, ne_eqb, eqb-true, eqb-false, not-false, not-true}
 use Rattle.std.specs.Prelude.{Result, Ok, Err}
 use Rattle.model.specs.declared.Answer.{Answer}
 use Rattle.model.specs.Answers.{up_to, ◌then◌, checked, answered}
-use Rattle.model.proofs.Answers.{Clean, then_next, then_ends, up_to_more}
+use Rattle.model.proofs.Answers.{Clean, then_next, then_ends, up_to_more, up_to_at}
 
 pub checked_pass : (r : Answer) → r.n ≡ 0 → checked r ≡ Ok tt
 unfolding checked
@@ -69,13 +66,5 @@ module _ (f : ℕ → Answer) where
   pub passed_all : (n : ℕ) → (up_to n f).n ≡ 0 → Ok tt ≡ checked (up_to n f)
   passed_all n h = sym (checked_pass (up_to n f) h)
 
-  first_broken : (n a : ℕ) → a < n → (up_to a f).n ≡ 0 → ((f a).n ≡ 0 → ⊥) → up_to n f ≡ f a
-  unfolding up_to
-  first_broken zero a l h b = absurd (let z : ⊥ = omega arith in z)
-  first_broken (suc n) a l h b =
-      ⊎_elim (λ (q : a ≡ n). rw (← q) (then_next (up_to a f) (f a) h))
-      (λ (q : a < n). rw (first_broken n a q h b) (then_ends (f a) (f n) b))
-      (eq-or-lt_of_le (let z : a ≤ n = omega arith in z))
-
   pub broken_at : (n a : ℕ) → a < n → (up_to a f).n ≡ 0 → {e : Answer} → Err e ≡ checked (f a) → Err e ≡ checked (up_to n f)
-  broken_at n a l h b = b ∙ ap checked (sym (first_broken n a l h ((breaks (f a) b).1)))
+  broken_at n a l h b = b ∙ ap checked (sym (up_to_at f n a l h ((breaks (f a) b).1)))

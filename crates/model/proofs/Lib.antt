@@ -16,3 +16,4 @@ pub mod Map
 pub mod Signed
 pub mod Settles
 pub mod Tags
+pub mod Unique

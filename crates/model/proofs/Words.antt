@@ -171,6 +171,14 @@ pub rows_same :
 rows_same W n p q pos h =
     is_rows W n q pos (rows W n p) (length_rows W n p) (words_rows W n p) (λ a b k l. bit_rows W n p a b k l ∙ h a b k l)
 
+-- no second list of words has the same bits
+pub same_words :
+    (W : ℕ) → 0 < W → (us vs : List ℕ) → length us ≡ length vs → Words us → Words vs →
+    ((a b : ℕ) → bit W us a b ≡ bit W vs a b) → us ≡ vs
+same_words W pos us vs len small small' h =
+    is_rows W (length vs) (bit W vs) pos us len small (λ a b k l. h a b)
+    ∙ sym (is_rows W (length vs) (bit W vs) pos vs refl small' (λ a b k l. refl))
+
 -- N whole rows hold a relation of positions for which they have bits, and nothing more
 pub bit_rows_all :
     (W N : ℕ) (p : ℕ → ℕ → Bool) → ((a b : ℕ) → p a b ≡ true → (a < N) × (b < 64 * W)) → bit W (rows W (W * N) p) ≡ p
@@ -197,6 +205,10 @@ module _ (x : List ℕ) where
   pub length_part : length (part x) ≡ part_words
   unfolding part
   length_part = length_rows row_words part_words (hb x)
+
+  pub words_part : Words (part x)
+  unfolding part
+  words_part = words_rows row_words part_words (hb x)
 
   pub shown_part : size x ≤ max_actions → shown (part x) ≡ hb x
   unfolding part shown

@@ -1,5 +1,5 @@
 -- An answer is (N, S, A, B). Smaller numbers are checked first: the answer is the first in a row of checks that is not 0.
-use Rattle.std.specs.Prelude.{ℕ, zero, suc, ◌+◌, ◌*◌, ◌^◌, Bool, true, false, eqb, Option, Some, None, Result, Ok, Err}
+use Rattle.std.specs.Prelude.{ℕ, zero, suc, ◌+◌, ◌*◌, ◌^◌, List, ◌++◌, Bool, true, false, eqb, Option, Some, None, Result, Ok, Err, codes, decimal}
 use Rattle.model.specs.declared.Answer.{Answer}
 use Rattle.model.specs.Search.{any, found, none}
 
@@ -53,6 +53,10 @@ named N s (Some a) = Err (answer N s a none)
 abbrev pub named₂ : ℕ → ℕ → Option (ℕ × ℕ) → Result (Unit {0}) Answer
 named₂ N s None = Ok tt
 named₂ N s (Some q) = Err (answer N s q.0 q.1)
+
+-- as it is printed: the four numbers in decimal, a blank between each and the next
+abbrev pub text : Answer → List ℕ
+text r = decimal r.n ++ codes " " ++ decimal r.s ++ codes " " ++ decimal r.a ++ codes " " ++ decimal r.b
 
 -- the host's one number
 unfoldable pub packed : Answer → ℕ

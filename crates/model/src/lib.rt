@@ -1,6 +1,8 @@
 // Document 01 in definitions: specs/ is what a reader must believe. The code here is the shapes and the numbers that every layer shares.
 #![tactic(auto)]
 
+ghost use Rattle.std.specs.Prelude.{Some};
+ghost use Rattle.model.specs.Answers.{text};
 ghost use Rattle.model.specs.Bytes.{Decodes};
 
 use std::fmt;
@@ -15,6 +17,8 @@ pub struct Answer {
 }
 
 impl fmt::Display for Answer {
+    ghost output = { λ r. Some (text r) };
+
     fn fmt<W: fmt::Write>(&self, f: &mut fmt::Formatter<W>) -> fmt::Result {
         write!(f, "{} {} {} {}", self.n, self.s, self.a, self.b)
     }

@@ -47,9 +47,10 @@ fn broken13(x: &[u8], list: &[u16], a: u16) -> bool
     let Ok(kind) = Kind::try_from(fields::kind(x, a)) else {
         return false;
     };
+    let own = Some(fields::thread(x, a));
     match kind {
         Kind::Lock => held(x, list, None, a),
-        Kind::Unlock => !held(x, list, Some(fields::thread(x, a)), a),
+        Kind::Unlock => !held(x, list, own, a),
         _ => false,
     }
 }

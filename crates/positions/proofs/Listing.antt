@@ -1,8 +1,10 @@
 -- The positions at which something holds, as a list: what a walk over the list, or a chain, comes to in the searches of the model.
 use Prim.Native.Nat.{ℕ, zero, suc, ◌+◌, ◌<◌, ◌≤◌}
 use native.Mathlib.Numerals.{add-one}
+use native.Mathlib.Nat.{eq-or-lt_of_le}
 use native.Mathlib.Omega.{arith}
 use mathlib.Core.Path.{◌≡◌, refl, sym, ap, ◌∙◌}
+use mathlib.Core.Logic.{⊎_elim}
 use mathlib.Core.Bool.{Bool, true, false, cond, ◌&&◌, ◌||◌, or-false}
 use mathlib.Core.List.{List, [], ◌∷◌, ◌++◌}
 use lib.Dec.{leb, ltb}
@@ -27,6 +29,15 @@ append_none [] = refl
 append_none (x ∷ l) = ap (λ m. x ∷ m) (append_none l)
 
 module _ (q : ℕ → Bool) where
+  -- a listed position before n stands before the end of the list of those below n
+  pub count_lt : (n b : ℕ) → b < n → q b ≡ true → count b q < count n q
+  unfolding count
+  count_lt zero b l e = absurd (let z : ⊥ = omega arith in z)
+  count_lt (suc n) b l e =
+      ⊎_elim (λ (z : b ≡ n). rw (← z, e) (omega arith))
+      (λ (z : b < n). let h : count b q < count n q = count_lt n b z e in omega arith)
+      (eq-or-lt_of_le (let z : b ≤ n = omega arith in z))
+
   pub positions_none : positions q 0 ≡ []
   unfolding positions
   positions_none = refl

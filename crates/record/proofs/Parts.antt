@@ -6,15 +6,23 @@ use native.Mathlib.Decide.{dec_le}
 use native.Mathlib.Omega.{arith}
 use mathlib.Core.Path.{◌≡◌, sym, ap₂, ◌∙◌}
 use mathlib.Core.List.{List}
-use lib.ListN.{length, take, drop, length-drop, drop_of_length-le}
+use lib.ListN.{length, take, drop, length-drop, drop_of_length-le, get_or-eq_default}
 use lib.Seq.{take_all, take-nil, get_or-take, get_or-drop}
-use Rattle.std.specs.declared.ops.Range.{Range}
-use Rattle.record.specs.Sections.{bounded}
 use Rattle.model.specs.Layout.{two, past, start, section, size}
+use Rattle.record.specs.declared.Span.{Span}
+use Rattle.record.specs.Sections.{bounded}
 
 -- a count read at the front of what follows p is the count at p
 two_drop : (r : List ℕ) (p : ℕ) → two (drop p r) 0 ≡ two r p
 two_drop r p = rw (get_or-drop p r 0 0, get_or-drop p r 1 0, add-zero p)
+
+pub two_rest : (r : List ℕ) (p : ℕ) → two (take (length r - p) (drop p r)) 0 ≡ two r p
+two_rest r p = rw (take_all (length r - p) (drop p r) (simp length-drop (omega arith))) (two_drop r p)
+
+-- past the end stands 0
+pub two_past : (r : List ℕ) (p : ℕ) → length r ≤ p → two r p ≡ 0
+two_past r p h =
+    rw (get_or-eq_default r 0 h, get_or-eq_default r 0 {n = p + 1} (omega arith))
 
 -- the c bytes that follow p, as far as r has them
 pub part : (r : List ℕ) (p c : ℕ) → take (min (p + c) (length r) - min p (length r)) (drop (min p (length r)) r) ≡ take c (drop p r)
@@ -47,12 +55,12 @@ module _ (r : List ℕ) (s : ℕ) where
       ∙ two_drop r p
 
   -- the part of r between the bounds of section s is the section, and it is a part of r
-  module _ {b : Range ℕ} (e : b ≡ bounded r s) where
-    pub bounds_section : take (b.end - b.start) (drop b.start r) ≡ section r s
+  module _ {b : Span} (e : b ≡ bounded r s) where
+    pub bounds_section : take (b.end - b.at) (drop b.at r) ≡ section r s
     unfolding bounded section start
     bounds_section = rw e (part r (start r s) (2 + 20 * two r (start r s)))
 
-    pub bounds_low : b.start ≤ b.end
+    pub bounds_low : b.at ≤ b.end
     unfolding bounded start
     bounds_low = rw e (omega arith)
 

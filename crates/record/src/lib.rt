@@ -13,7 +13,13 @@ use model::{
     ACTION_BYTES, Answer, COUNT_BYTES, HEADER_BYTES, Header, MAX_ACTIONS, MAX_JUSTIFYING,
     MAX_MONITORS, MAX_THREADS, MAX_VARIABLES,
 };
-use std::ops::Range;
+
+// Where a section stands in the record's bytes.
+#[derive(Clone, Copy)]
+pub struct Span {
+    pub at: usize,
+    pub end: usize,
+}
 
 // The count of the section that starts at p.
 fn count(r: &[u8], p: usize) -> u16
@@ -31,21 +37,24 @@ fn past(r: &[u8], p: usize) -> usize
 }
 
 // Where section s stands in the bytes, as far as the record has it.
-pub fn bounds(r: &[u8], s: u8) -> Range<usize>
+pub fn bounds(r: &[u8], s: u8) -> Span
     ensures { result ≡ bounded r.now s }
 {
     let mut p = HEADER_BYTES;
     for _ in 0..s {
         p = past(r, p);
     }
-    p.min(r.len())..past(r, p).min(r.len())
+    Span {
+        at: p.min(r.len()),
+        end: past(r, p).min(r.len()),
+    }
 }
 
 pub fn section(r: &[u8], s: u8) -> &[u8]
     ensures { result.now ≡ section r.now s }
 {
-    let at = bounds(r, s);
-    &r[at]
+    let Span { at, end } = bounds(r, s);
+    &r[at..end]
 }
 
 // Number 1.

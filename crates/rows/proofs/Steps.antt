@@ -1,14 +1,14 @@
 -- A row or-ed into another, and a round of closing: the words after, as rows.
 use Prim.Native.Nat.{ℕ, ◌+◌, ◌*◌, ◌/◌, ◌<◌, ◌≤◌}
-use mathlib.Core.Path.{◌≡◌, sym, ◌∙◌}
+use mathlib.Core.Path.{◌≡◌, refl, sym, ◌∙◌}
 use mathlib.Core.List.{List}
-use mathlib.Core.Bool.{Bool, true, ◌&&◌, ◌||◌, and-false}
+use mathlib.Core.Bool.{Bool, true, false, cond, ◌&&◌, ◌||◌, and-false}
 use mathlib.Mathlib.Data.Bool.Basic.{eq-false_of_not-eq-true}
 use native.Mathlib.Nat.{mul-le-mul_left}
 use native.Mathlib.Decide.{dec_lt}
 use native.Mathlib.Omega.{arith}
 use lib.ListN.{length}
-use lib.Dec.{eqb, ltb}
+use lib.Dec.{eqb, ltb, leb}
 use borrow.Author.Tests.{lt-ltb, le-ltb, le-leb, lt-leb}
 use Rattle.model.specs.WorkArea.{rows, bit}
 use Rattle.model.proofs.Words.{Words, length_rows, bit_rows, bit_rows_all, is_rows, rows_same}
@@ -16,7 +16,16 @@ use Rattle.rows.specs.Steps.{join, round}
 use Rattle.rows.specs.Rounds.{Joined, Round}
 use Rattle.rows.proofs.Rounds.{joined_whole}
 
+-- as many words, changed or not
+length_either : (W : ℕ) (ws : List ℕ) (p : ℕ → ℕ → Bool) (t : Bool) → length (cond t (rows W (length ws) p) ws) ≡ length ws
+length_either W ws p true = length_rows W (length ws) p
+length_either W ws p false = refl
+
 module _ (W : ℕ) (ws : List ℕ) (to : ℕ) (us : List ℕ) (from : ℕ) where
+  pub length_joined : length (join W ws to us from) ≡ length ws
+  unfolding join
+  length_joined = length_either W ws _ (leb (W * to + W) (length ws) && leb (W * from + W) (length us))
+
   joined_in :
       W * to + W ≤ length ws → W * from + W ≤ length us →
       join W ws to us from ≡ rows W (length ws) (λ a b. bit W ws a b || eqb a to && bit W us from b)
@@ -35,7 +44,7 @@ module _ (W : ℕ) (ws : List ℕ) (to : ℕ) (us : List ℕ) (from : ℕ) where
       0 < W → W * to + W ≤ length ws → W * from + W ≤ length us → {ws' : List ℕ} → Words ws' →
       Joined W ws ws' to us from true W → ws' ≡ join W ws to us from
   joined_by pos h g small s =
-      is_rows W (length ws) (λ a b. bit W ws a b || eqb a to && bit W us from b) pos _ s.long small (λ a b k l. joined_whole W ws to us from s a b)
+      is_rows W (length ws) (λ a b. bit W ws a b || eqb a to && bit W us from b) pos _ s.long small (λ a b k l. joined_whole W ws to us from true s a b)
       ∙ sym (joined_in h g)
 
 -- rows of relations
@@ -74,6 +83,10 @@ module _ (W : ℕ) (ws : List ℕ) (n k : ℕ) where
   rounded_by pos h g l small s =
       is_rows W (length ws) (λ a b. bit W ws a b || ltb a n && (bit W ws a k && bit W ws k b)) pos _ s.long small (λ a b i j. s.bits a b)
       ∙ sym (rounded_in h g l)
+
+  pub length_rounded : length (round W ws n k) ≡ length ws
+  unfolding round
+  length_rounded = length_either W ws _ (ltb k n && leb n (64 * W) && leb (W * n) (length ws))
 
 -- N rows of a relation of the first n positions
 pub rounded_rows :

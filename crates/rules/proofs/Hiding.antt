@@ -22,11 +22,13 @@ grouped false q r s = refl
 
 module _ (h : ℕ → ℕ → Bool) (x : List ℕ) (a : ℕ) (w : Option ℕ) where
   -- what is looked for among the writes
-  pub hides_is :
-      {v : ℕ} → v ≡ target x a →
-      any (size x) (λ b. write x b && (eqb (target x b) v && (before h w b && h b a))) ≡ any (size x) (hiding h x a w)
-  unfolding hiding rival
-  hides_is {v} e = rw e (any_same _ _ (size x) (λ b u. grouped (write x b) (eqb (target x b) (target x a)) (before h w b) (h b a)))
+  module _ {v : ℕ} (e : v ≡ target x a) where
+    pub hides_at : (b : ℕ) → write x b && (eqb (target x b) v && (before h w b && h b a)) ≡ hiding h x a w b
+    unfolding hiding rival
+    hides_at b = rw e (grouped (write x b) (eqb (target x b) (target x a)) (before h w b) (h b a))
+
+    pub hides_is : any (size x) (λ b. write x b && (eqb (target x b) v && (before h w b && h b a))) ≡ any (size x) (hiding h x a w)
+    hides_is = any_same _ _ (size x) (λ b u. hides_at b)
 
   module _ (k : kind x a ≡ 1) (e : w ≡ source x a) where
     reads : read x a ≡ true

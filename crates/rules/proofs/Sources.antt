@@ -101,11 +101,13 @@ module _ (x : List ℕ) (a : ℕ) where
         rw (seen_is.sees_it, any_at (seen_by x a) (size x) w (ltb-true w (size x) below) (rw (same, rivals)))
 
   -- what is looked for among the writes
-  pub sought_is :
-      {d v : ℕ} → d ≡ seen x a → v ≡ target x a →
-      any (size x) (λ b. write x b && (eqb (ident x b) d && eqb (target x b) v)) ≡ any (size x) (seen_by x a)
-  unfolding seen_by rival
-  sought_is {d} {v} e f = rw (e, f) (any_same _ _ (size x) (λ b u. second_first (write x b) (eqb (ident x b) (seen x a)) (eqb (target x b) (target x a))))
+  module _ {d v : ℕ} (e : d ≡ seen x a) (f : v ≡ target x a) where
+    pub sought_at : (b : ℕ) → write x b && (eqb (ident x b) d && eqb (target x b) v) ≡ seen_by x a b
+    unfolding seen_by rival
+    sought_at b = rw (e, f) (second_first (write x b) (eqb (ident x b) (seen x a)) (eqb (target x b) (target x a)))
+
+    pub sought_is : any (size x) (λ b. write x b && (eqb (ident x b) d && eqb (target x b) v)) ≡ any (size x) (seen_by x a)
+    sought_is = any_same _ _ (size x) (λ b u. sought_at b)
 
 -- the table, one entry more
 pub sources_more :

@@ -12,6 +12,8 @@ use Rattle.model.specs.declared.Kind.TheVariants.{Read, Write, VolatileRead, Vol
 use Rattle.model.specs.Bytes.{byte_of}
 use Rattle.model.specs.Layout.{kind, thread}
 use Rattle.model.specs.Rules.{held, broken13}
+use Rattle.std.specs.Prelude.{Some}
+use Rattle.ordered.specs.Monitors.{admits}
 use Rattle.ordered.proofs.monitors.broken13.Goals as goal
 
 -- what is asked of an action, by its kind
@@ -52,7 +54,8 @@ returns-in-Lock c =
 pub returns-in-Unlock : goal.returns-in-Unlock
 returns-in-Unlock c =
     let h = rw c.in-Unlock.is at c.in-Ok.ensures in
-    ap not (rw c.thread.ensures at c.held-in-Unlock.ensures) ∙ sym (of_unlock c.args.x.now c.args.a c.kind.ensures h)
+    let by_own = ap (λ (t : ℕ). held c.args.x.now c.args.a (admits (Some t))) c.thread.ensures in
+    ap not (c.held-in-Unlock.ensures ∙ by_own) ∙ sym (of_unlock c.args.x.now c.args.a c.kind.ensures h)
 
 pub returns-in_default-kind : goal.returns-in_default-kind
 returns-in_default-kind c =

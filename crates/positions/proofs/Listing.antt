@@ -9,7 +9,8 @@ use mathlib.Core.Bool.{Bool, true, false, cond, ◌&&◌, ◌||◌, or-false}
 use mathlib.Core.List.{List, [], ◌∷◌, ◌++◌}
 use lib.Dec.{leb, ltb}
 use lib.ListN.{length, get_or, take}
-use Rattle.std.specs.List.{find, list_any, count_by}
+use Rattle.std.specs.List.{find, filter, list_any, count_by}
+use Rattle.std.proofs.lemmas.List.Elements.{filter-append}
 use Rattle.std.proofs.lemmas.List.Folds.{list_any-append, find-append}
 use borrow.Author.Tests.{leb-true, le-leb, ltb-true, ltb-false}
 use Rattle.std.proofs.lemmas.List.Sums.{sum_by-append}
@@ -65,6 +66,16 @@ pub positions_same : {q p : ℕ → Bool} → ((b : ℕ) → q b ≡ p b) → (n
 unfolding positions
 positions_same is zero = refl
 positions_same is (suc n) = rw (positions_same is n, is n) refl
+
+-- of those positions, those that pass a test
+pub positions_filter : (q p : ℕ → Bool) (n : ℕ) → positions (λ b. q b && p b) n ≡ filter p (positions q n)
+unfolding positions
+positions_filter q p zero = refl
+positions_filter q p (suc n) = rw (positions_filter q p n, filter-append p (positions q n) (cond (q n) (n ∷ []) [])) (ap (λ l. filter p (positions q n) ++ l) (go (q n)))
+  where
+    go : (b : Bool) → cond (b && p n) (n ∷ []) [] ≡ filter p (cond b (n ∷ []) [])
+    go true = refl
+    go false = refl
 
 -- the list of a set of kinds, of which `is` says what it is in the model's words (proofs/Sets.antt)
 pub is_listed : (x : List ℕ) (s : ℕ) {p : ℕ → Bool} → ((b : ℕ) → of_kinds x s b ≡ p b) → size x ≤ max_actions → listed x s ≡ positions p (size x)

@@ -5,7 +5,7 @@ use native.Mathlib.Decide.{dec_lt}
 use native.Mathlib.Omega.{arith}
 use mathlib.Core.Path.{◌≡◌, refl, sym}
 use mathlib.Core.List.{List}
-use mathlib.Core.Bool.{Bool, false, not, ◌||◌, beq}
+use mathlib.Core.Bool.{Bool, false, not, ◌&&◌, ◌||◌, beq}
 use lib.Dec.{eqb, lit<}
 use lib.Pow.{pow_mono}
 use borrow.Author.Tests.{ne_eqb, not-false}
@@ -18,7 +18,7 @@ use Rattle.model.proofs.Bools.{same_bool}
 use Rattle.model.proofs.Search.{any_not}
 use Rattle.model.proofs.Words.{on}
 use Rattle.model.proofs.Synchronizes.{past_table}
-use Rattle.positions.specs.Lists.{writes, plains, locks, lasts, takers, syncs, of_kinds}
+use Rattle.positions.specs.Lists.{writes, plains, plain_writes, locks, lasts, takers, syncs, of_kinds}
 
 -- a set and a test of kinds that agree on the twelve rows of the table, where the test fails past them
 set_is : (s : ℕ) (p : ℕ → Bool) → s < 4096 → any 12 (λ k. not (beq (on s k) (p k))) ≡ false → ((k : ℕ) → 12 ≤ k → p k ≡ false) → (k : ℕ) → on s k ≡ p k
@@ -46,6 +46,10 @@ module _ (x : List ℕ) (b : ℕ) where
   pub are_plain : of_kinds x plains b ≡ plain x b
   unfolding of_kinds any
   are_plain = set_is plains (λ k. eqb k 1 || eqb k 2) (lit< tt) refl (λ k h. rw (ne_eqb k 1 (λ e. omega arith), ne_eqb k 2 (λ e. omega arith))) (kind x b)
+
+  pub are_plain_writes : of_kinds x plain_writes b ≡ plain x b && write x b
+  unfolding of_kinds any kind_row
+  are_plain_writes = set_is plain_writes (λ k. (eqb k 1 || eqb k 2) && (kind_row k).write) (lit< tt) refl (λ k h. rw (ne_eqb k 1 (λ e. omega arith), ne_eqb k 2 (λ e. omega arith))) (kind x b)
 
   pub are_locks : of_kinds x locks b ≡ eqb (kind x b) 5 || eqb (kind x b) 6
   unfolding of_kinds any

@@ -10,6 +10,9 @@ writes = 2 ^ 2 + 2 ^ 4
 abbrev pub plains : ℕ
 plains = 2 ^ 1 + 2 ^ 2
 
+abbrev pub plain_writes : ℕ
+plain_writes = 2 ^ 2
+
 abbrev pub locks : ℕ
 locks = 2 ^ 5 + 2 ^ 6
 

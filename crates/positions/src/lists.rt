@@ -12,6 +12,9 @@ pub const WRITES: u16 = (1 << Kind::Write as u16) | (1 << Kind::VolatileWrite as
 // the accesses that can race;
 pub const PLAIN: u16 = (1 << Kind::Read as u16) | (1 << Kind::Write as u16);
 
+// those of them that write;
+pub const PLAIN_WRITES: u16 = 1 << Kind::Write as u16;
+
 // the locks and the unlocks;
 pub const LOCKS: u16 = (1 << Kind::Lock as u16) | (1 << Kind::Unlock as u16);
 

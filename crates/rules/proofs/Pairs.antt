@@ -8,10 +8,10 @@ use mathlib.Core.Logic.{⊎_elim}
 use mathlib.Core.Bool.{Bool, true, false, not, cond, ◌&&◌, ◌||◌, and_assoc, and-false}
 use mathlib.Core.List.{List, [], ◌∷◌, ◌++◌}
 use lib.Dec.{eqb, leb, ltb}
-use lib.ListN.{length}
+use lib.ListN.{length, drop}
 use borrow.Author.Tests.{le-leb, lt-leb}
 use Rattle.std.specs.Prelude.{Some, None}
-use Rattle.std.specs.List.{find}
+use Rattle.std.specs.List.{find, filter}
 use Rattle.model.specs.Limits.{max_actions}
 use Rattle.model.specs.Search.{any, first, none, below, found₂}
 use Rattle.model.specs.Answers.{checked, named₂}
@@ -24,7 +24,7 @@ use Rattle.positions.specs.Lists.{positions}
 use Rattle.positions.proofs.Listing.{positions_same, find_listed}
 use Rattle.model.proofs.Options.{below_some, below_none, pair_none, pair_first}
 use Rattle.model.proofs.Checks.{checked_rule₂}
-use Rattle.rules.specs.Searches.{races, least_pair}
+use Rattle.rules.specs.Searches.{meets, races, least_pair}
 
 -- the positions from a on at which q holds
 abbrev from : (ℕ → Bool) → ℕ → ℕ → Bool
@@ -55,11 +55,47 @@ module _ (q : ℕ → Bool) where
       go false l m = refl
 
 -- what the code tests
-pub races_are :
-    (h : ℕ → ℕ → Bool) (x : List ℕ) (a : ℕ) (l : List ℕ) {v : ℕ} {w : Bool} → v ≡ target x a → w ≡ write x a →
-    find (λ b. eqb v (target x b) && (w || write x b) && (not (h a b) && not (h b a))) l ≡ find (races h x a) l
-unfolding races
-races_are h x a l e q = rw (e, q) refl
+pub met_are :
+    (h : ℕ → ℕ → Bool) (x : List ℕ) (a : ℕ) (l : List ℕ) {v : ℕ} → v ≡ target x a →
+    find (λ b. eqb v (target x b) && (not (h a b) && not (h b a))) l ≡ find (meets h x a) l
+unfolding meets
+met_are h x a l e = rw e refl
+
+-- a write meets any, and a read the writes alone
+module _ (h : ℕ → ℕ → Bool) (x : List ℕ) (a : ℕ) where
+  races_meets : (b : ℕ) → races h x a b ≡ (write x a || write x b) && meets h x a b
+  unfolding races meets
+  races_meets b = middle (eqb (target x a) (target x b)) (write x a || write x b) (not (h a b) && not (h b a))
+    where
+      middle : (p q r : Bool) → p && q && r ≡ q && (p && r)
+      middle true true r = refl
+      middle true false r = refl
+      middle false true r = refl
+      middle false false r = refl
+
+  pub raced_write : write x a ≡ true → (l : List ℕ) → find (meets h x a) l ≡ find (races h x a) l
+  raced_write w [] = refl
+  raced_write w (b ∷ l) = rw (races_meets b, w, raced_write w l) refl
+
+  pub raced_read : write x a ≡ false → (l : List ℕ) → find (meets h x a) (filter (write x) l) ≡ find (races h x a) l
+  raced_read w [] = refl
+  raced_read w (b ∷ l) = rw (races_meets b, w) (go (raced_read w l) (write x b))
+    where
+      go :
+          find (meets h x a) (filter (write x) l) ≡ find (races h x a) l →
+          (t : Bool) → find (meets h x a) (cond t (b ∷ filter (write x) l) (filter (write x) l)) ≡ cond (t && meets h x a b) (Some b) (find (races h x a) l)
+      go rest true = rw rest refl
+      go rest false = rest
+
+-- the writes behind a, of those from a on
+pub behind_filter :
+    (x : List ℕ) {a : ℕ} {later rest from_a behind_a : List ℕ} → behind_a ≡ drop (cond (write x a) 1 0) from_a → from_a ≡ filter (write x) rest → rest ≡ a ∷ later →
+    behind_a ≡ filter (write x) later
+behind_filter x {a} {later} d e r = d ∙ ap (drop (cond (write x a) 1 0)) (e ∙ ap (filter (write x)) r) ∙ go (write x a)
+  where
+    go : (t : Bool) → drop (cond t 1 0) (cond t (a ∷ filter (write x) later) (filter (write x) later)) ≡ filter (write x) later
+    go true = refl
+    go false = refl
 
 -- the first entry has a later one, or not
 module _ (t : ℕ → ℕ → Bool) (a : ℕ) (l : List ℕ) where

@@ -17,6 +17,10 @@ hiding h x a w b = rival x a b && before h w b && h b a
 unfoldable pub races : (ℕ → ℕ → Bool) → List ℕ → ℕ → ℕ → Bool
 races h x a b = eqb (target x a) (target x b) && (write x a || write x b) && (not (h a b) && not (h b a))
 
+-- 31: of a write and another plain access
+unfoldable pub meets : (ℕ → ℕ → Bool) → List ℕ → ℕ → ℕ → Bool
+meets h x a b = eqb (target x a) (target x b) && (not (h a b) && not (h b a))
+
 -- 31: the first entry of l that t finds a later one for, with the first such
 unfoldable pub least_pair : (ℕ → ℕ → Bool) → List ℕ → Option (ℕ × ℕ)
 least_pair t [] = None

@@ -1,24 +1,17 @@
 // The race of number 31.
-ghost use Rattle.std.specs.Prelude.{◌≡◌, not, ◌&&◌, ◌||◌, eqb, ◌≤◌};
-ghost use Rattle.std.specs.List.{find};
+ghost use Rattle.std.specs.Prelude.{◌≡◌, not, cond, ◌&&◌, ◌≤◌, drop};
+ghost use Rattle.std.specs.List.{find, filter};
 ghost use Rattle.model.specs.Limits.{max_actions};
 ghost use Rattle.model.specs.Answers.{checked};
-ghost use Rattle.model.specs.Layout.{size, target, write};
+ghost use Rattle.model.specs.Layout.{size, write};
 ghost use Rattle.model.specs.WorkArea.{shown};
 ghost use Rattle.model.specs.Rules.{racing};
-ghost use Rattle.rules.specs.Searches.{races, least_pair};
+ghost use Rattle.rules.specs.Searches.{meets, races, least_pair};
 
 use answers::rule_of_pair;
 use model::Answer;
 use positions::lists;
 use positions::lists::PLAIN;
-
-// b is on the variable, and it or the other access writes.
-fn conflicting(x: &[u8], variable: u8, writes: bool, b: u16) -> bool
-    ensures { result ≡ (eqb variable (target x.now b) && (writes || write x.now b)) }
-{
-    variable == fields::target(x, b) && (writes || table::write(x, b))
-}
 
 // Neither happens before the other.
 fn unordered(part: &[u64], a: u16, b: u16) -> bool
@@ -27,22 +20,46 @@ fn unordered(part: &[u64], a: u16, b: u16) -> bool
     !rows::before(part, a, b) && !rows::before(part, b, a)
 }
 
-// The first of the later plain accesses that races with the plain access a.
-fn raced(x: &[u8], part: &[u64], a: u16, later: &[u16]) -> Option<u16>
-    ensures { result ≡ find (races (shown part.now) x.now a) later.now }
+// The first of the entries that is on a's variable, and not ordered with a.
+fn met(x: &[u8], part: &[u64], a: u16, entries: &[u16]) -> Option<u16>
+    ensures { result ≡ find (meets (shown part.now) x.now a) entries.now }
 {
     let variable = fields::target(x, a);
-    let writes = table::write(x, a);
-    later.iter().copied().find(|b| conflicting(x, variable, writes, *b) && unordered(part, a, *b))
+    entries.iter().copied().find(|b| variable == fields::target(x, *b) && unordered(part, a, *b))
 }
 
-// The least pair of plain accesses that races: each is held against those after it.
-fn least_pair(x: &[u8], part: &[u64], plain: &[u16]) -> Option<(u16, u16)>
+// The first of the later plain accesses that races with the plain access a. A read is held against the later writes alone.
+fn raced(x: &[u8], part: &[u64], a: u16, later: &[u16], writes: &[u16]) -> Option<u16>
+    requires { writes.now ≡ filter (write x.now) later.now }
+    ensures { result ≡ find (races (shown part.now) x.now a) later.now }
+{
+    if table::write(x, a) {
+        met(x, part, a, later)
+    } else {
+        met(x, part, a, writes)
+    }
+}
+
+// The writes behind the plain access a, of those from a on.
+fn behind<'a>(x: &[u8], a: u16, writes: &'a [u16]) -> &'a [u16]
+    ensures { result.now ≡ drop (cond (write x.now a) 1 0) writes.now }
+{
+    match writes.split_first() {
+        Some((_, later)) if table::write(x, a) => later,
+        _ => writes,
+    }
+}
+
+// The least pair of plain accesses that races: each is held against those after it. `writes` has those that write.
+fn least_pair(x: &[u8], part: &[u64], plain: &[u16], writes: &[u16]) -> Option<(u16, u16)>
+    requires { writes.now ≡ filter (write x.now) plain.now }
     ensures { result ≡ least_pair (races (shown part.now) x.now) plain.now }
 {
     let mut rest = plain;
+    let mut written = writes;
     while let Some((a, later)) = rest.split_first() {
-        if let Some(b) = raced(x, part, *a, later) {
+        written = behind(x, *a, written);
+        if let Some(b) = raced(x, part, *a, later, written) {
             return Some((*a, b));
         }
         rest = later;
@@ -56,5 +73,10 @@ pub(crate) fn race_free(x: &[u8], part: &[u64]) -> Result<(), Answer>
     ensures { result ≡ checked (racing (shown part.now) x.now) }
 {
     let plain = lists::listed(x, PLAIN);
-    rule_of_pair(31, 0, least_pair(x, part, plain.as_slice()))
+    let writes = lists::listed(x, lists::PLAIN_WRITES);
+    rule_of_pair(
+        31,
+        0,
+        least_pair(x, part, plain.as_slice(), writes.as_slice()),
+    )
 }

@@ -1,6 +1,6 @@
 // Rules of two actions: 22 and 23 of two of E, 29 of two of E_i. An action that is seen to break none is passed over, for in most
 // records nothing is broken.
-ghost use Rattle.std.specs.Prelude.{◌≡◌, ◌<◌, not};
+ghost use Rattle.std.specs.Prelude.{◌≡◌, ◌<◌, not, true};
 ghost use Rattle.model.specs.Search.{any, found, position};
 ghost use Rattle.model.specs.Answers.{«rule₂», checked};
 ghost use Rattle.model.specs.Layout.{size};
@@ -145,12 +145,13 @@ impl Step<'_> {
         kind(self.f, x) == Kind::External as u8 && !self.has(ident(self.f, x))
     }
 
-    // Most pairs are not in hb, which is asked first.
+    // x is external and outside C_i, which is asked once, before all y. Most pairs are not in hb, which is asked first.
     #[tactic(auto, unfolding(model::specs::Justified::broken29))]
     fn broken29(&self, x: u16, y: u16) -> bool
+        requires { outside self.now.e.now self.now.f.now self.now.i x ≡ true }
         ensures { result ≡ broken29 (shown self.now.f_part.now) self.now.e.now self.now.f.now self.now.i x y }
     {
-        rows::before(self.f_part, x, y) && self.outside(x) && self.has(ident(self.f, y))
+        rows::before(self.f_part, x, y) && self.has(ident(self.f, y))
     }
 
     // The first y with which x breaks 29.

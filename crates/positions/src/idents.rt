@@ -4,7 +4,9 @@ ghost use Rattle.positions.specs.Idents.{from_slot};
 
 use crate::firsts::KEYS;
 
-// The first action with identifier d from the table's entry on, before which there is none; the section's size where there is none.
+// The first action with identifier d from the table's entry on, before which there is none; the section's size where there is none. A call is cheaper than
+// the loop inlined: among the many values of a caller it would load its own from the stack at each action.
+#[inline(never)]
 pub fn position_of(x: &[u8], first: &[u16; KEYS], d: u16) -> u16
     ensures { result ≡ from_slot x.now first.now d }
 {
